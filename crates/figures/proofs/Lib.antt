@@ -1,0 +1,5 @@
+pub mod Known
+pub mod Lowest
+pub mod Tabulated
+pub mod Below
+pub mod Parts

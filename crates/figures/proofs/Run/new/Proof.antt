@@ -1,0 +1,26 @@
+use Rattle.figures.specs.Limits.{runOf}
+use mathlib.Core.Bool.{true, false}
+use Rattle.figures.proofs.Known.{chosen}
+use borrow.Author.Needs.{needs}
+use Rattle.figures.proofs.Run.new.Statement.{statement}
+use Rattle.figures.proofs.Run.new.Tie as tie
+use Rattle.figures.proofs.Run.new.Reads as reads
+use Rattle.figures.proofs.Run.new.Lts as lts
+use Rattle.figures.proofs.within.Reads as within-reads
+
+-- src/lib.rt:285:12
+within-requires : tie.Need-within-requires
+within-requires c κs = search needs
+
+-- src/lib.rt:282:5
+returns : tie.Need-returns
+unfolding runOf
+returns c = chosen true _ _ (c .before .within .ensures) (c .if1 .taken)
+
+-- src/lib.rt:282:5
+returns-2 : tie.Need-returns-2
+unfolding runOf
+returns-2 c = chosen false _ _ (c .before .within .ensures) (c .if1 .left)
+
+pub new-spec : {M : Type 1} → statement M
+new-spec = tie.close (tie.spec within-requires returns returns-2)

@@ -1,0 +1,3 @@
+pub mod KindNumbers
+pub mod Named
+pub mod Bytes

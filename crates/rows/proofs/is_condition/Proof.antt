@@ -1,0 +1,32 @@
+use native.Mathlib.Omega.{arith}
+use mathlib.Core.List.{[]}
+use lib.ListN.{List·getD-eq-default}
+use Rattle.rows.specs.Rows.{Row}
+use borrow.Author.Needs.{needs}
+use Rattle.rows.proofs.is_condition.Statement.{statement}
+use Rattle.rows.proofs.is_condition.Tie as tie
+use Rattle.rows.proofs.is_condition.Reads as reads
+use Rattle.rows.proofs.is_condition.Lts as lts
+
+-- src/lib.rt:128:26
+mul-result : tie.Need-mul-result
+mul-result c = search needs
+
+-- src/lib.rt:128:26
+index-1-result : tie.Need-index-1-result
+index-1-result c = search needs
+
+-- src/lib.rt:128:26
+index-2-result : tie.Need-index-2-result
+index-2-result c = search needs
+
+-- src/lib.rt:124:1
+returns : tie.Need-returns
+returns c = search needs
+
+-- src/lib.rt:124:1
+returns-2 : tie.Need-returns-2
+returns-2 c = simp (List·getD-eq-default {A = Row} (c .before .args .rows .now) [] {n = c .before .args .r .0} (omega arith))
+
+pub is-condition-spec : {M : Type 1} → statement M
+is-condition-spec = tie.close (tie.spec mul-result index-1-result index-2-result returns returns-2)

@@ -1,0 +1,4 @@
+pub mod Signals
+pub mod Truth
+pub mod Answers
+pub mod Column
