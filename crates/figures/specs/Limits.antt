@@ -7,8 +7,6 @@ use Rattle.figures.specs.declared.Suite.{Suite}
 use Rattle.figures.specs.declared.Refusal.the-variants.{FileBytes, Counts, TableLength, RunLength}
 use Rattle.figures.specs.declared.SuiteAnswer.{SuiteAnswer}
 use Rattle.figures.specs.declared.SuiteAnswer.the-variants as suite-answer
-use Rattle.figures.specs.declared.FileAnswer.{FileAnswer}
-use Rattle.figures.specs.declared.FileAnswer.the-variants as file-answer
 use Rattle.figures.specs.declared.TableAnswer.{TableAnswer}
 use Rattle.figures.specs.declared.TableAnswer.the-variants as table-answer
 use Rattle.figures.specs.declared.RequirementAnswer.{RequirementAnswer}
@@ -65,9 +63,9 @@ suiteOf c q r =
     (gives (record { conditions = record { 0 = c }; requirements = record { 0 = q }; runs = record { 0 = r } }))
     (refusal Counts)
 
--- 1, "file under 4 or over 65,535 bytes", else its bytes
-unfoldable pub fileOf : ℕ → Outcome ℕ
-fileOf bytes = cond (within leastBytes mostBytes bytes) (gives bytes) (refusal FileBytes)
+-- 1, "file under 4 or over 65,535 bytes"
+unfoldable pub fileOf : ℕ → Outcome (Unit {0})
+fileOf bytes = cond (within leastBytes mostBytes bytes) (gives tt) (refusal FileBytes)
 
 -- 7, else the rows of a formula table
 unfoldable pub tableOf : ℕ → Outcome ℕ
@@ -85,10 +83,6 @@ runOf steps = cond (within 1 mostSteps steps) (gives steps) (refusal RunLength)
 abbrev pub suiteSays : SuiteAnswer → Outcome Suite
 suiteSays (suite-answer.Made s) = gives s
 suiteSays (suite-answer.Refused r) = refusal r
-
-abbrev pub fileSays : FileAnswer → Outcome ℕ
-fileSays (file-answer.Made b) = gives (b .0)
-fileSays (file-answer.Refused r) = refusal r
 
 abbrev pub tableSays : TableAnswer → Outcome ℕ
 tableSays (table-answer.Made t) = gives (t .0 .0)

@@ -1,7 +1,7 @@
 // What every number counts, the limits of document 01, and the refusals. A number crosses an interface only in one of these types.
 ghost use mathlib.Core.Path.{_≡_};
-ghost use Rattle.figures.specs.Refusals.{numberOf, placeOf, rowPlaceOf, stepPlaceOf, printedPlace};
-ghost use Rattle.figures.specs.Limits.{within, countsWithin, rowsWithin, suiteSays, fileSays, tableSays, requirementSays, runSays, suiteOf, fileOf, tableOf, requirementOf, runOf};
+ghost use Rattle.figures.specs.Refusals.{numberOf, placeOf, rowPlaceOf, stepPlaceOf, printedPlace, checkSays};
+ghost use Rattle.figures.specs.Limits.{within, countsWithin, rowsWithin, suiteSays, tableSays, requirementSays, runSays, suiteOf, fileOf, tableOf, requirementOf, runOf};
 
 // Numbers: which one is meant. All count from 0.
 pub struct ConditionNumber(pub usize);
@@ -205,11 +205,6 @@ pub enum SuiteAnswer {
     Refused(Refusal),
 }
 
-pub enum FileAnswer {
-    Made(ByteCount),
-    Refused(Refusal),
-}
-
 pub enum TableAnswer {
     Made(Table),
     Refused(Refusal),
@@ -262,13 +257,14 @@ impl Suite {
         Suite::new(conditions, RequirementCount(1), RunCount(1))
     }
 
-    pub fn file(bytes: ByteCount) -> FileAnswer
-        ensures { λ r. ⌜ fileSays r ≡ fileOf (bytes .0) ⌝ }
+    // Refusal 1 of a file of so many bytes.
+    pub fn file(bytes: ByteCount) -> Check
+        ensures { λ r. ⌜ checkSays r ≡ fileOf (bytes .0) ⌝ }
     {
         if within(Self::LEAST_BYTES, Self::BYTES, bytes.0) {
-            FileAnswer::Made(bytes)
+            Check::Passed
         } else {
-            FileAnswer::Refused(Refusal::FileBytes)
+            Check::Refused(Refusal::FileBytes)
         }
     }
 }

@@ -8,7 +8,7 @@ use native.Mathlib.Numerals.{add-one}
 use native.Mathlib.Nat.{add-zero}
 use native.Mathlib.Decide.{ℕ-discrete, decLt}
 use borrow.Rule.Slice.PartMut.{putMid}
-use lib.ListN.{length, getD, take, drop, set, replicate, length-append, length-drop, length-take}
+use lib.ListN.{length, getD, take, drop, set, replicate, length-append, length-drop, length-take, length-replicate}
 use lib.Seq.{take-suc, take-all, take-at, drop-at, take-add, drop-drop, getD-drop, set-at, ext-getD}
 use Rattle.figures.proofs.Parts.{rest-lent, rest-back}
 use Rattle.figures.specs.Limits.{rowBytes}
@@ -111,3 +111,17 @@ module _ (rows : List Row) (before : List ℕ) (fits : 3 * length rows ≤ lengt
       putMid (3 * r) (length o - 3 * r) o new ≡ written rows before (r + 1))
       is
       (write-at r new l)
+
+-- a table that the array holds is its front
+module _ (table : List ℕ) (many : ℕ) (l : length table / rowBytes ≤ many) where
+  pub decoded : take (length table / rowBytes) (padded many (rowsOf table)) ≡ rowsOf table
+  decoded =
+      ap (take (length table / rowBytes)) (padded-is many (rowOf table) (length table / rowBytes) l)
+      ∙ take-at (rowsOf table) _ (length table / rowBytes) (length-tabulate (rowOf table) (length table / rowBytes))
+
+  pub length-padded : length (padded many (rowsOf table)) ≡ many
+  length-padded =
+      ap length (padded-is many (rowOf table) (length table / rowBytes) l)
+      ∙ length-append (rowsOf table) _
+      ∙ omega
+      (arith, length-tabulate (rowOf table) (length table / rowBytes), length-replicate (many - length table / rowBytes) (row 0 0 0))

@@ -19,3 +19,7 @@ in-range P least k p q low high = go (ℕ-discrete k least)
 -- "Kinds 0 to 12 are the only kinds"
 pub unknown : (k : ℕ) → 13 ≤ k → kindOf k ≡ Unknown
 unknown k h = List·getD-eq-default kinds Unknown h
+
+-- one kind number less that k can be
+pub skip : {m k : ℕ} → m ≤ k → (k ≡ m → ⊥) → suc m ≤ k
+skip h d = omega arith

@@ -1,3 +1,4 @@
 pub mod KindNumbers
 pub mod Named
 pub mod Bytes
+pub mod Sound

@@ -10,10 +10,11 @@ use Rattle.figures.specs.declared.StepPlace.the-variants as step-place
 use Rattle.figures.specs.declared.Refusal.the-variants.{StrayBit}
 use Rattle.figures.specs.Refusals.{Outcome, refusal, _then_}
 use Rattle.figures.specs.Refusals.Outcome.{gives}
-use Rattle.figures.specs.Limits.{suiteOf, tableOf, runOf}
+use Rattle.figures.specs.Limits.{runOf}
 use Rattle.figures.specs.Numbers.{refusedAt}
+use Rattle.rows.specs.Rows.{Row}
 use Rattle.rows.specs.Codec.{rowsOf}
-use Rattle.rows.specs.Checks.{rowsChecked}
+use Rattle.rows.specs.Checks.{tableSized, rowsChecked}
 use Rattle.truth.specs.declared.Verdict.{Verdict}
 use Rattle.truth.specs.declared.Verdict.the-variants as verdict
 use Rattle.truth.specs.declared.StepFound.{StepFound}
@@ -36,12 +37,11 @@ abbrev pub runChecked : ℕ → List ℕ → Outcome (Unit {0})
 runChecked conditions run =
     runOf (length run) then λ _. refusedAt (λ i. StrayBit (step-place.Lone (record { 0 = i }))) (lowestStray conditions run)
 
--- 3, 7 and 8 on a lone formula table
-abbrev pub tableChecked : ℕ → List ℕ → Outcome (Unit {0})
-tableChecked conditions table =
-    suiteOf conditions 1 1 then λ _. tableOf (length table) then λ _. rowsChecked conditions (rowsOf table)
+-- 8, 10 and 11, and then the verdict
+abbrev pub rowsSay : List Row → List ℕ → ℕ → Outcome Bool
+rowsSay rows run conditions =
+    rowsChecked conditions rows then λ _. runChecked conditions run then λ _. gives (holds rows run)
 
 -- "Truth takes any formula table and gives neither 9 nor 12", "checks in order of number": 3, 7, 8, 10, 11, and then the verdict
 unfoldable pub truthSays : List ℕ → List ℕ → ℕ → Outcome Bool
-truthSays table run conditions =
-    tableChecked conditions table then λ _. runChecked conditions run then λ _. gives (holds (rowsOf table) run)
+truthSays table run conditions = tableSized conditions (length table) then λ _. rowsSay (rowsOf table) run conditions

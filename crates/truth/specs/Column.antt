@@ -1,8 +1,14 @@
--- One step of the column engine: a row's value at a step from values at this step and the next. Proved equal to truth; nobody needs to believe it.
+-- The column engine, one step at a time. What it computes is proved to be truth; nobody needs to believe this page.
 -- Assumes nothing.
+use mathlib.Core.Path.{_≡_}
 use mathlib.Core.Bool.{Bool, true, false, not, _&&_, _||_}
-use Rattle.rows.specs.Rows.{Kind}
+use mathlib.Core.List.{List}
+use Prim.Native.Nat.{ℕ, _<_, _≤_}
+use lib.ListN.{length, getD}
+use Rattle.figures.specs.Limits.{mostTableRows}
+use Rattle.rows.specs.Rows.{Kind, Row, kind, first, second, rowAt, named}
 use Rattle.rows.specs.Rows.Kind.{False, True, Condition, Not, And, Or, Strong-next, Weak-next, Until, Release, Finally, Globally, Weak-until, Unknown}
+use Rattle.rows.specs.Checks.{All}
 
 -- own: what a condition reads; a, b: the children now; a-next, next: the first child and the row itself at the next step; last: there is none
 abbrev pub cell : Kind → Bool → Bool → Bool → Bool → Bool → Bool → Bool
@@ -20,3 +26,20 @@ cell Finally own a b a-next next last = a || (not last && next)
 cell Globally own a b a-next next last = a && (last || next)
 cell Weak-until own a b a-next next last = b || (a && (last || next))
 cell Unknown own a b a-next next last = false
+
+-- the value of a row, from the columns of the step in hand and of the step after it
+abbrev pub cellOf : Row → Bool → List Bool → List Bool → ℕ → Bool → Bool
+cellOf row own here after r last =
+    cell (kind row) own (getD here (first row) false) (getD here (second row) false) (getD after (first row) false)
+    (getD after r false) last
+
+-- the first m values of a column are those of their rows
+abbrev pub Cells : List Row → (ℕ → Bool) → List Bool → Bool → List Bool → ℕ → Type 0
+Cells rows own after last here m = (r : ℕ) → r < m → getD here r false ≡ cellOf (rowAt rows r) (own r) here after r last
+
+-- rows that the engine can take: a column holds them, and they name lower rows
+pub record Fit (rows : List Row) : Type 0 where
+  pub few : length rows ≤ mostTableRows
+  pub first-inside : (r : ℕ) → r < length rows → first (rowAt rows r) < mostTableRows
+  pub second-inside : (r : ℕ) → r < length rows → second (rowAt rows r) < mostTableRows
+  pub lower : (r : ℕ) → r < length rows → All (λ k. k < r) (named (rowAt rows r))

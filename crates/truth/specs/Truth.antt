@@ -49,9 +49,12 @@ truthOf rows reads n r = deep rows reads n (suc r) r
 unfoldable pub bit : ℕ → ℕ → Bool
 bit word c = ltb c mostConditions && eqb (word / 2 ^ c % 2) 1
 
--- what the condition rows read of a run
+-- what the condition rows read of a step's word, and of a run
+abbrev pub ownOf : List Row → ℕ → ℕ → Bool
+ownOf rows word r = bit word (first (rowAt rows r))
+
 abbrev pub readsOf : List Row → List ℕ → Reading
-readsOf rows run r i = bit (getD run i 0) (first (rowAt rows r))
+readsOf rows run r i = ownOf rows (getD run i 0) r
 
 -- "The formula is the last row", "The verdict is the truth at step 0"
 abbrev pub verdictOf : List Row → Reading → ℕ → Bool

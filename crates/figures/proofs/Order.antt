@@ -1,0 +1,99 @@
+-- Checks in order: which refusal is given, in plain logic. A check has one number, and a later one is asked where the earlier pass.
+-- Assumes nothing.
+use mathlib.Core.Path.{_≡_, refl, sym, _∙_, ap}
+use mathlib.Core.Logic.{_↔_, Iff·trans}
+use mathlib.Core.Bool.{Bool, true, false, cond, So}
+use mathlib.Core.Option.{Option, none, some}
+use Prim.Native.Nat.{ℕ, _<_}
+use native.Mathlib.Omega.{arith}
+use Rattle.figures.specs.declared.Place.{Place}
+use Rattle.figures.specs.declared.Refusal.{Refusal}
+use Rattle.figures.specs.Refusals.{Outcome, refusal, numberOf, placeOf, _then_}
+use Rattle.figures.specs.Refusals.Outcome.{refused, gives}
+use Rattle.figures.specs.Numbers.{lowest, refusedAt}
+use Rattle.figures.proofs.Given.{not-both}
+use Rattle.figures.proofs.Lowest.{Holds, Lowest, lowest-none, lowest-some, lowest-holds, lowest-is}
+
+-- a check passes; it refuses by one number alone; it never refuses by a number
+abbrev pub Passes : {A : Type 0} → Outcome A → Type 0
+Passes {A} o = (a : A) × (o ≡ gives a)
+
+abbrev pub Numbered : {A : Type 0} → Outcome A → ℕ → Type 0
+Numbered o n = (m : ℕ) (p : Place) → o ≡ refused m p → m ≡ n
+
+abbrev pub Never : {A : Type 0} → ℕ → Outcome A → Type 0
+Never n o = (p : Place) → o ≡ refused n p → ⊥
+
+same-number : {A : Type 0} {m n : ℕ} {p q : Place} → _≡_ {A = Outcome A} (refused m p) (refused n q) → m ≡ n
+same-number e = cc
+
+module _ {A B : Type 0} (o : Outcome B) (n : ℕ) where
+  -- an earlier check by another number passes, and the rest refuses
+  pub skip : (x : Outcome A) {m : ℕ} (p : Place) → Numbered x m → (m ≡ n → ⊥) → ((x then λ _. o) ≡ refused n p) ↔ (Passes x × (o ≡ refused n p))
+  skip (refused k q) p one d = (λ e. absurd (d (sym (one k q refl) ∙ same-number e)), λ h. not-both refl (h .0 .1))
+  skip (gives a) p one d = (λ e. ((a, refl), e), λ h. h .1)
+
+  -- the rest never refuses by this number, so this check does
+  pub stop : (x : Outcome A) (p : Place) → Never n o → ((x then λ _. o) ≡ refused n p) ↔ (x ≡ refused n p)
+  stop (refused k q) p none-after = (λ e. let z = same-number e in cc, λ e. cc)
+  stop (gives a) p none-after = (λ e. absurd (none-after p e), λ e. not-both e refl)
+
+  pub never-then : (x : Outcome A) {m : ℕ} → Numbered x m → (m ≡ n → ⊥) → Never n o → Never n (x then λ _. o)
+  never-then x one d after p e = after p (skip x p one d .0 e .1)
+
+pub never-gives : {A : Type 0} (n : ℕ) (a : A) → Never n (gives a)
+never-gives n a p e = not-both e refl
+
+-- all pass, and the last gives its value
+pub passes : {A B : Type 0} (x : Outcome A) (o : Outcome B) (b : B) → ((x then λ _. o) ≡ gives b) ↔ (Passes x × (o ≡ gives b))
+passes (refused k q) o b = (λ e. not-both refl e, λ h. not-both refl (h .0 .1))
+passes (gives a) o b = (λ e. ((a, refl), e), λ h. h .1)
+
+pub then-assoc : {A B C : Type 0} (x : Outcome A) (y : Outcome B) (z : Outcome C) → ((x then λ _. y) then λ _. z) ≡ (x then λ _. y then λ _. z)
+then-assoc (refused k q) y z = refl
+then-assoc (gives a) y z = refl
+
+-- a check that is one test
+module _ {A : Type 0} (x : A) (r : Refusal) where
+  pub test-numbered : (b : Bool) → Numbered (cond b (gives x) (refusal r)) (numberOf r)
+  test-numbered true m p e = not-both e refl
+  test-numbered false m p e = sym (same-number e)
+
+  pub test-passes : (b : Bool) → Passes (cond b (gives x) (refusal r)) ↔ So b
+  test-passes true = (λ _. refl, λ _. (x, refl))
+  test-passes false = (λ h. not-both refl (h .1), λ e. (x, ap (λ t. cond t (gives x) (refusal r)) e))
+
+-- a check that refuses at the lowest place
+module _ (at : ℕ → Refusal) (m : ℕ) (f : ℕ → Bool) where
+  pub lowest-numbered : (n : ℕ) → ((k : ℕ) → numberOf (at k) ≡ n) → Numbered (refusedAt at (lowest m 0 f)) n
+  lowest-numbered n same k p = go (lowest m 0 f)
+    where
+      go : (l : Option ℕ) → refusedAt at l ≡ refused k p → k ≡ n
+      go none e = not-both e refl
+      go (some j) e = sym (same-number e) ∙ same j
+
+  pub lowest-passes : Passes (refusedAt at (lowest m 0 f)) ↔ Holds f 0 m
+  lowest-passes = (
+    λ h. let e = go (lowest m 0 f) refl (h .1) in λ k l g. lowest-holds m 0 f e k l (omega arith),
+    λ h. (tt, ap (refusedAt at) (lowest-none m 0 f (λ k l g. h k l (omega arith)))),
+  )
+    where
+      go : (l : Option ℕ) → lowest m 0 f ≡ l → refusedAt at l ≡ gives tt → lowest m 0 f ≡ none
+      go none q e = q
+      go (some j) q e = not-both refl e
+
+  -- given at a place exactly where it is the lowest that fails, if a place says where it is
+  pub lowest-refused :
+      (n : ℕ) (place : ℕ → Place) (where-is : Place → ℕ) → ((k : ℕ) → refusal {A = Unit {0}} (at k) ≡ refused n (place k)) →
+      ((k : ℕ) → where-is (place k) ≡ k) → (j : ℕ) → (refusedAt at (lowest m 0 f) ≡ refused n (place j)) ↔ Lowest f m 0 j
+  lowest-refused n place where-is is tells j = (
+    λ e. lowest-is m 0 f j (go (lowest m 0 f) refl e),
+    λ h. ap (refusedAt at) (lowest-some m 0 f j h) ∙ is j,
+  )
+    where
+      same-place : {k l : ℕ} {p q : Place} → _≡_ {A = Outcome (Unit {0})} (refused k p) (refused l q) → p ≡ q
+      same-place e = cc
+
+      go : (l : Option ℕ) → lowest m 0 f ≡ l → refusedAt at l ≡ refused n (place j) → lowest m 0 f ≡ some j
+      go none q e = not-both e refl
+      go (some k) q e = q ∙ ap some (sym (tells k) ∙ ap where-is (same-place (sym (is k) ∙ e)) ∙ tells j)

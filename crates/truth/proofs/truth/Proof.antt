@@ -1,0 +1,91 @@
+-- `truth::truth` meets its contract: it gives the refusal of the table's size, or what the rows that it decodes to say.
+-- Assumes nothing.
+use borrow.Author.Needs.{needs}
+use native.Mathlib.Omega.{arith}
+use mathlib.Core.Path.{_≡_, sym, _∙_, ap}
+use Prim.Native.Nat.{ℕ, _/_, _≤_}
+use lib.ListN.{length, take}
+use Rattle.figures.specs.Refusals.{checkSays, _then_}
+use Rattle.figures.specs.Limits.{rowBytes, mostTableRows}
+use Rattle.figures.proofs.Known.{said}
+use Rattle.figures.proofs.Tabulated.{length-tabulate}
+use Rattle.rows.specs.Codec.{rowOf, rowsOf, padded}
+use Rattle.rows.proofs.Bytes.{decoded, length-padded}
+use Rattle.truth.specs.Answers.{rowsSay, truthSays}
+use Rattle.truth.proofs.Accepted.{sized}
+use mathlib.Core.List.{List}
+use Rattle.rows.specs.Rows.{Row}
+use mathlib.Core.Path.{sym, ap}
+use lib.ListN.{length}
+use Rattle.figures.specs.Limits.{mostTableRows}
+use Rattle.rows.specs.Codec.{rowsOf}
+use Rattle.rows.proofs.Bytes.{length-padded}
+use Rattle.truth.proofs.truth.Statement.{statement}
+use Rattle.truth.proofs.truth.Tie as tie
+
+-- the rows decoded from a table of few rows are the front of the array
+front : (table : List ℕ) (rows : List Row) → length table / rowBytes ≤ mostTableRows → rows ≡ padded mostTableRows (rowsOf table) → take (length table / rowBytes) rows ≡ rowsOf table
+front table rows l e = ap (take (length table / rowBytes)) e ∙ decoded table mostTableRows l
+
+count : (table : List ℕ) → length (rowsOf table) ≡ length table / rowBytes
+count table = length-tabulate (rowOf table) (length table / rowBytes)
+
+check-table-requires : tie.Need-check-table-requires
+check-table-requires c κs = search needs
+
+enum-known-r : tie.Need-enum-known-r
+enum-known-r c = search needs
+
+returns : tie.Need-returns
+unfolding truthSays
+returns c =
+    let a = c .before .before .before .before .before .before .args in
+    said checkSays (λ o. o then λ _. rowsSay (rowsOf (a .table .now)) (a .run .now) (a .conditions .0)) (c .before .before .before .check-table .ensures) (c .before .r .given .1)
+
+enum-told : tie.Need-enum-told
+enum-told c = search needs
+
+decode-requires : tie.Need-decode-requires
+decode-requires c κs = search needs
+
+array-share-prefix-rows : tie.Need-array-share-prefix-rows
+array-share-prefix-rows c =
+    let a = c .before .before .before .before .before .before .args in
+    let s = sized (a .conditions .0) (length (a .table .now)) (tt, sym (said checkSays (λ o. o) (c .before .before .before .check-table .ensures) (c .before .enum-told .given .1))) in
+    omega (arith, s .few-rows, ap length (c .decode .ensures), length-padded (a .table .now) mostTableRows (s .few-rows))
+
+slice-aggregate-truth-of-rows : tie.Need-slice-aggregate-truth-of-rows
+slice-aggregate-truth-of-rows c =
+    let a = c .before .before .before .before .before .before .before .args in
+    let s = sized (a .conditions .0) (length (a .table .now)) (tt, sym (said checkSays (λ o. o) (c .before .before .before .before .check-table .ensures) (c .before .before .enum-told .given .1))) in
+    sym (ap length (front (a .table .now) _ (s .few-rows) (c .before .decode .ensures)) ∙ count (a .table .now))
+
+truth-of-rows-requires : tie.Need-truth-of-rows-requires
+truth-of-rows-requires c κs =
+    let a = c .before .before .before .before .before .before .before .args in
+    let s = sized (a .conditions .0) (length (a .table .now)) (tt, sym (said checkSays (λ o. o) (c .before .before .before .before .check-table .ensures) (c .before .before .enum-told .given .1))) in
+    let many = ap length (front (a .table .now) _ (s .few-rows) (c .before .decode .ensures)) ∙ count (a .table .now) in
+    (omega (arith, many, s .some-row), omega (arith, many, s .few-rows), s .few-conditions)
+
+returns-2 : tie.Need-returns-2
+unfolding truthSays
+returns-2 c =
+    let a = c .before .before .before .before .before .before .before .before .args in
+    let s = sized (a .conditions .0) (length (a .table .now)) (tt, sym (said checkSays (λ o. o) (c .before .before .before .before .before .check-table .ensures) (c .before .before .before .enum-told .given .1))) in
+    c .truth-of-rows .ensures
+    ∙ ap (λ rows. rowsSay rows (a .run .now) (a .conditions .0)) (front (a .table .now) _ (s .few-rows) (c .before .before .decode .ensures))
+    ∙ said checkSays (λ o. o then λ _. rowsSay (rowsOf (a .table .now)) (a .run .now) (a .conditions .0)) (c .before .before .before .before .before .check-table .ensures) (c .before .before .before .enum-told .given .1)
+
+pub truth-spec : {M : Type 1} → statement M
+truth-spec =
+    tie.close
+    (tie.spec
+    check-table-requires
+    enum-known-r
+    returns
+    enum-told
+    decode-requires
+    array-share-prefix-rows
+    slice-aggregate-truth-of-rows
+    truth-of-rows-requires
+    returns-2)
