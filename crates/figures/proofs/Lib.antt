@@ -6,3 +6,5 @@ pub mod Parts
 pub mod Unique
 pub mod Given
 pub mod Order
+pub mod Passed
+pub mod Ascending

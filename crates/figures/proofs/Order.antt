@@ -49,6 +49,12 @@ pub passes : {A B : Type 0} (x : Outcome A) (o : Outcome B) (b : B) → ((x then
 passes (refused k q) o b = (λ e. not-both refl e, λ h. not-both refl (h .0 .1))
 passes (gives a) o b = (λ e. ((a, refl), e), λ h. h .1)
 
+pub both-pass : {A B : Type 0} (x : Outcome A) (y : Outcome B) → Passes (x then λ _. y) ↔ (Passes x × Passes y)
+both-pass x y = (λ h. let e = passes x y (h .0) .0 (h .1) in (e .0, (h .0, e .1)), λ h. (h .1 .0, passes x y (h .1 .0) .1 (h .0, h .1 .1)))
+
+pub passes-alone : {A : Type 0} (x : Outcome A) → Passes (x then λ _. gives (tt {0})) ↔ Passes x
+passes-alone x = (λ h. both-pass x _ .0 h .0, λ h. both-pass x _ .1 (h, (tt, refl)))
+
 pub then-assoc : {A B C : Type 0} (x : Outcome A) (y : Outcome B) (z : Outcome C) → ((x then λ _. y) then λ _. z) ≡ (x then λ _. y then λ _. z)
 then-assoc (refused k q) y z = refl
 then-assoc (gives a) y z = refl

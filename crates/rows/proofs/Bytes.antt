@@ -24,7 +24,7 @@ set-front (x ∷ []) a b c h = absurd (omega arith)
 set-front (x ∷ y ∷ []) a b c h = absurd (omega arith)
 set-front (x ∷ y ∷ z ∷ l) a b c h = refl
 
-take-front : (l : List ℕ) → 3 ≤ length l → take 3 l ≡ getD l 0 0 ∷ getD l 1 0 ∷ getD l 2 0 ∷ []
+pub take-front : (l : List ℕ) → 3 ≤ length l → take 3 l ≡ getD l 0 0 ∷ getD l 1 0 ∷ getD l 2 0 ∷ []
 take-front [] h = absurd (omega arith)
 take-front (x ∷ []) h = absurd (omega arith)
 take-front (x ∷ y ∷ []) h = absurd (omega arith)

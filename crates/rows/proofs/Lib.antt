@@ -2,3 +2,6 @@ pub mod KindNumbers
 pub mod Named
 pub mod Bytes
 pub mod Sound
+pub mod Sized
+pub mod Given
+pub mod RoundTrip

@@ -7,3 +7,4 @@ pub mod Cells
 pub mod Bits
 pub mod Columns
 pub mod Accepted
+pub mod Given

@@ -12,7 +12,7 @@ use Rattle.figures.proofs.Tabulated.{length-tabulate}
 use Rattle.rows.specs.Codec.{rowOf, rowsOf, padded}
 use Rattle.rows.proofs.Bytes.{decoded, length-padded}
 use Rattle.truth.specs.Answers.{rowsSay, truthSays}
-use Rattle.truth.proofs.Accepted.{sized}
+use Rattle.rows.proofs.Sized.{table-sized}
 use mathlib.Core.List.{List}
 use Rattle.rows.specs.Rows.{Row}
 use mathlib.Core.Path.{sym, ap}
@@ -51,29 +51,29 @@ decode-requires c κs = search needs
 array-share-prefix-rows : tie.Need-array-share-prefix-rows
 array-share-prefix-rows c =
     let a = c .before .before .before .before .before .before .args in
-    let s = sized (a .conditions .0) (length (a .table .now)) (tt, sym (said checkSays (λ o. o) (c .before .before .before .check-table .ensures) (c .before .enum-told .given .1))) in
-    omega (arith, s .few-rows, ap length (c .decode .ensures), length-padded (a .table .now) mostTableRows (s .few-rows))
+    let s = table-sized (a .conditions .0) (length (a .table .now)) .0 (tt, sym (said checkSays (λ o. o) (c .before .before .before .check-table .ensures) (c .before .enum-told .given .1))) in
+    omega (arith, s .1 .1 .1, ap length (c .decode .ensures), length-padded (a .table .now) mostTableRows (s .1 .1 .1))
 
 slice-aggregate-truth-of-rows : tie.Need-slice-aggregate-truth-of-rows
 slice-aggregate-truth-of-rows c =
     let a = c .before .before .before .before .before .before .before .args in
-    let s = sized (a .conditions .0) (length (a .table .now)) (tt, sym (said checkSays (λ o. o) (c .before .before .before .before .check-table .ensures) (c .before .before .enum-told .given .1))) in
-    sym (ap length (front (a .table .now) _ (s .few-rows) (c .before .decode .ensures)) ∙ count (a .table .now))
+    let s = table-sized (a .conditions .0) (length (a .table .now)) .0 (tt, sym (said checkSays (λ o. o) (c .before .before .before .before .check-table .ensures) (c .before .before .enum-told .given .1))) in
+    sym (ap length (front (a .table .now) _ (s .1 .1 .1) (c .before .decode .ensures)) ∙ count (a .table .now))
 
 truth-of-rows-requires : tie.Need-truth-of-rows-requires
 truth-of-rows-requires c κs =
     let a = c .before .before .before .before .before .before .before .args in
-    let s = sized (a .conditions .0) (length (a .table .now)) (tt, sym (said checkSays (λ o. o) (c .before .before .before .before .check-table .ensures) (c .before .before .enum-told .given .1))) in
-    let many = ap length (front (a .table .now) _ (s .few-rows) (c .before .decode .ensures)) ∙ count (a .table .now) in
-    (omega (arith, many, s .some-row), omega (arith, many, s .few-rows), s .few-conditions)
+    let s = table-sized (a .conditions .0) (length (a .table .now)) .0 (tt, sym (said checkSays (λ o. o) (c .before .before .before .before .check-table .ensures) (c .before .before .enum-told .given .1))) in
+    let many = ap length (front (a .table .now) _ (s .1 .1 .1) (c .before .decode .ensures)) ∙ count (a .table .now) in
+    (omega (arith, many, s .1 .1 .0), omega (arith, many, s .1 .1 .1), s .0 .1)
 
 returns-2 : tie.Need-returns-2
 unfolding truthSays
 returns-2 c =
     let a = c .before .before .before .before .before .before .before .before .args in
-    let s = sized (a .conditions .0) (length (a .table .now)) (tt, sym (said checkSays (λ o. o) (c .before .before .before .before .before .check-table .ensures) (c .before .before .before .enum-told .given .1))) in
+    let s = table-sized (a .conditions .0) (length (a .table .now)) .0 (tt, sym (said checkSays (λ o. o) (c .before .before .before .before .before .check-table .ensures) (c .before .before .before .enum-told .given .1))) in
     c .truth-of-rows .ensures
-    ∙ ap (λ rows. rowsSay rows (a .run .now) (a .conditions .0)) (front (a .table .now) _ (s .few-rows) (c .before .before .decode .ensures))
+    ∙ ap (λ rows. rowsSay rows (a .run .now) (a .conditions .0)) (front (a .table .now) _ (s .1 .1 .1) (c .before .before .decode .ensures))
     ∙ said checkSays (λ o. o then λ _. rowsSay (rowsOf (a .table .now)) (a .run .now) (a .conditions .0)) (c .before .before .before .before .before .check-table .ensures) (c .before .before .before .enum-told .given .1)
 
 pub truth-spec : {M : Type 1} → statement M

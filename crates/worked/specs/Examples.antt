@@ -1,0 +1,72 @@
+-- Document 01, "Examples to reckon with": those marked P, as one statement about the definitions.
+-- Assumes nothing.
+use mathlib.Core.Path.{_≡_}
+use mathlib.Core.Bool.{true, false}
+use mathlib.Core.List.{List, [], _∷_}
+use Prim.Native.Nat.{ℕ, _+_, _^_}
+use Rattle.rows.specs.Rows.{Row, row}
+use Rattle.truth.specs.Truth.{holds}
+
+-- "Conditions a, b, c are 0, 1, 2; a step is a set"
+abbrev pub a : ℕ
+a = 0
+
+abbrev pub b : ℕ
+b = 1
+
+abbrev pub c : ℕ
+c = 2
+
+abbrev pub step : List ℕ → ℕ
+step [] = 0
+step (condition ∷ more) = 2 ^ condition + step more
+
+-- the requirements of the examples
+abbrev pub finally-a-or-b : List Row
+finally-a-or-b = row 2 a 0 ∷ row 2 b 0 ∷ row 5 0 1 ∷ row 10 2 0 ∷ []
+
+abbrev pub a-or-b-until-c : List Row
+a-or-b-until-c = row 2 a 0 ∷ row 2 b 0 ∷ row 5 0 1 ∷ row 2 c 0 ∷ row 8 2 3 ∷ []
+
+abbrev pub weak-next-a : List Row
+weak-next-a = row 2 a 0 ∷ row 7 0 0 ∷ []
+
+abbrev pub strong-next-a : List Row
+strong-next-a = row 2 a 0 ∷ row 6 0 0 ∷ []
+
+abbrev pub a-release-b : List Row
+a-release-b = row 2 a 0 ∷ row 2 b 0 ∷ row 9 0 1 ∷ []
+
+abbrev pub a-or-a : List Row
+a-or-a = row 2 a 0 ∷ row 2 a 0 ∷ row 5 0 1 ∷ []
+
+abbrev pub a-and-a : List Row
+a-and-a = row 2 a 0 ∷ row 2 a 0 ∷ row 4 0 1 ∷ []
+
+abbrev pub a-or-not-a : List Row
+a-or-not-a = row 2 a 0 ∷ row 2 a 0 ∷ row 3 1 0 ∷ row 5 0 2 ∷ []
+
+-- the runs of the examples
+abbrev pub none-a-b : List ℕ
+none-a-b = step [] ∷ step (a ∷ []) ∷ step (b ∷ []) ∷ []
+
+abbrev pub none-a-none : List ℕ
+none-a-none = step [] ∷ step (a ∷ []) ∷ step [] ∷ []
+
+abbrev pub only-a : List ℕ
+only-a = step (a ∷ []) ∷ []
+
+-- the verdicts
+pub record Verdicts : Type 0 where
+  pub example-1 : holds finally-a-or-b none-a-b ≡ true
+  pub example-2 : holds finally-a-or-b none-a-none ≡ true
+  pub example-3-fails : holds a-or-b-until-c (step (a ∷ b ∷ []) ∷ step (a ∷ []) ∷ step (b ∷ []) ∷ []) ≡ false
+  pub example-3-holds : holds a-or-b-until-c (step (a ∷ b ∷ []) ∷ step (a ∷ c ∷ []) ∷ []) ≡ true
+  pub example-4-weak : holds weak-next-a (step [] ∷ []) ≡ true
+  pub example-4-later : holds weak-next-a (step [] ∷ step (a ∷ []) ∷ []) ≡ true
+  pub example-4-strong : holds strong-next-a (step [] ∷ []) ≡ false
+  pub example-5 : holds a-release-b (step (b ∷ []) ∷ step (a ∷ b ∷ []) ∷ step [] ∷ []) ≡ true
+  pub example-5-without : holds a-release-b (step (b ∷ []) ∷ step (a ∷ b ∷ []) ∷ []) ≡ true
+  pub example-6-or : holds a-or-a only-a ≡ true
+  pub example-6-and : holds a-and-a only-a ≡ true
+  pub example-6-not : holds a-or-not-a only-a ≡ true

@@ -1,0 +1,199 @@
+// Runs document 01's vectors about truth that are run and not proved, and prints what each answers.
+ghost use mathlib.Core.Path.{_≡_};
+ghost use Prim.Native.Nat.{_+_, _*_};
+ghost use lib.ListN.{length};
+ghost use Rattle.figures.specs.Limits.{rowBytes, mostTableRows};
+use figures::ConditionCount;
+use figures::Refusal;
+use figures::Run;
+use figures::Table;
+use libc::STDOUT_FILENO;
+use truth::Verdict;
+
+fn say_refused(r: Refusal) {
+    io::write_all(STDOUT_FILENO, b": refused ");
+    io::print_decimal(STDOUT_FILENO, r.number().0 as u64);
+    io::write_all(STDOUT_FILENO, b" ");
+    io::print_decimal(STDOUT_FILENO, r.place().printed().0 as u64);
+    io::write_all(STDOUT_FILENO, b"\n");
+}
+
+fn say(label: &[u8], answer: Verdict) {
+    io::write_all(STDOUT_FILENO, label);
+    match answer {
+        Verdict::Holds => {
+            io::write_all(STDOUT_FILENO, b": holds\n");
+        }
+        Verdict::Fails => {
+            io::write_all(STDOUT_FILENO, b": fails\n");
+        }
+        Verdict::Refused(r) => say_refused(r),
+    }
+}
+
+// One row more than the longest table. Row 0 is condition 0; each later row is and, or, until, release or weak until of the row
+// below it and row 0.
+fn too_long() -> [u8; Table::ROW_BYTES * Table::ROWS + Table::ROW_BYTES]
+    ensures { λ r. ⌜ rowBytes * mostTableRows + rowBytes ≡ length r ⌝ }
+{
+    let kinds = [4u8, 5, 8, 9, 12];
+    let mut table = [0u8; Table::ROW_BYTES * Table::ROWS + Table::ROW_BYTES];
+    table[0] = 2;
+    let mut r = 1;
+    while r <= Table::ROWS {
+        table[Table::ROW_BYTES * r] = kinds[r % 5];
+        table[Table::ROW_BYTES * r + 1] = ((r - 1) % 256) as u8;
+        r += 1;
+    }
+    table
+}
+
+// The longest table and the longest run, and one row and one step more.
+fn longest() {
+    let table = too_long();
+    let ones = [1u32; Run::STEPS + 1];
+    let zeros = [0u32; Run::STEPS];
+    let rows = Table::ROW_BYTES * Table::ROWS;
+    say(
+        b"224 rows, 4096 steps, held at each",
+        truth::truth(&table[..rows], &ones[..Run::STEPS], ConditionCount(1)),
+    );
+    say(
+        b"224 rows, 4096 steps, held at none",
+        truth::truth(&table[..rows], &zeros, ConditionCount(1)),
+    );
+    say(b"225 rows", truth::truth(&table, &zeros, ConditionCount(1)));
+    say(
+        b"4097 steps",
+        truth::truth(&table[..rows], &ones, ConditionCount(1)),
+    );
+}
+
+// Each refusal of a lone table or run, and which comes first.
+fn refusals() {
+    let table = [2u8, 0, 0, 2, 31, 0, 5, 0, 1, 10, 2, 0];
+    let stray = [0u32, 1 << 31, 1 << 30];
+    say(
+        b"0 conditions",
+        truth::truth(&table, &stray, ConditionCount(0)),
+    );
+    say(
+        b"33 conditions",
+        truth::truth(&table, &stray, ConditionCount(33)),
+    );
+    say(
+        b"0 rows",
+        truth::truth(&table[..0], &stray, ConditionCount(32)),
+    );
+    say(
+        b"4 bytes",
+        truth::truth(&table[..4], &stray, ConditionCount(32)),
+    );
+    say(
+        b"condition 31 of 32",
+        truth::truth(&table, &stray, ConditionCount(32)),
+    );
+    say(
+        b"condition 31 of 31",
+        truth::truth(&table, &stray, ConditionCount(31)),
+    );
+    say(
+        b"unknown kind",
+        truth::truth(b"\x02\x00\x00\x0d\x00\x00", &stray, ConditionCount(31)),
+    );
+    say(
+        b"own row named",
+        truth::truth(b"\x02\x00\x00\x03\x01\x00", &stray, ConditionCount(31)),
+    );
+    say(
+        b"unused field",
+        truth::truth(b"\x01\x00\x00\x0a\x00\x01", &stray, ConditionCount(31)),
+    );
+    say(
+        b"0 steps",
+        truth::truth(&table[..3], &stray[..0], ConditionCount(1)),
+    );
+    say(
+        b"bit 31 of 31 conditions",
+        truth::truth(&table[..3], &stray, ConditionCount(31)),
+    );
+    say(
+        b"bit 30 of 30 conditions",
+        truth::truth(&table[..3], &stray[2..], ConditionCount(30)),
+    );
+    say(
+        b"wrong length and no step",
+        truth::truth(&table[..4], &stray[..0], ConditionCount(1)),
+    );
+    say(
+        b"wrong row and wrong bit",
+        truth::truth(&table[3..], &stray, ConditionCount(31)),
+    );
+}
+
+// Kinds that the proved examples leave out, and two steps at which they differ.
+fn kinds() {
+    let run = [1u32, 0, 3];
+    say(
+        b"false",
+        truth::truth(b"\x00\x00\x00", &run, ConditionCount(2)),
+    );
+    say(
+        b"true",
+        truth::truth(b"\x01\x00\x00", &run, ConditionCount(2)),
+    );
+    say(
+        b"globally a",
+        truth::truth(b"\x02\x00\x00\x0b\x00\x00", &run, ConditionCount(2)),
+    );
+    say(
+        b"finally b",
+        truth::truth(b"\x02\x01\x00\x0a\x00\x00", &run, ConditionCount(2)),
+    );
+    say(
+        b"a until b",
+        truth::truth(
+            b"\x02\x00\x00\x02\x01\x00\x08\x00\x01",
+            &run,
+            ConditionCount(2),
+        ),
+    );
+    say(
+        b"a weak until b",
+        truth::truth(
+            b"\x02\x00\x00\x02\x01\x00\x0c\x00\x01",
+            &run,
+            ConditionCount(2),
+        ),
+    );
+    say(
+        b"a weak until b, first step",
+        truth::truth(
+            b"\x02\x00\x00\x02\x01\x00\x0c\x00\x01",
+            &run[..1],
+            ConditionCount(2),
+        ),
+    );
+    say(
+        b"a until b, first step",
+        truth::truth(
+            b"\x02\x00\x00\x02\x01\x00\x08\x00\x01",
+            &run[..1],
+            ConditionCount(2),
+        ),
+    );
+    say(
+        b"b until a",
+        truth::truth(
+            b"\x02\x00\x00\x02\x01\x00\x08\x01\x00",
+            &run,
+            ConditionCount(2),
+        ),
+    );
+}
+
+fn main() {
+    longest();
+    refusals();
+    kinds();
+}
