@@ -50,9 +50,9 @@ pub fn bit_of(word: u32, condition: ConditionNumber) -> bool
 fn word_sound(word: u32, conditions: ConditionCount) -> bool
     ensures { λ r. ⌜ r ≡ wordSound (conditions .0) word ⌝ }
 {
-    let c = conditions.0;
-    if c < Suite::CONDITIONS {
-        word >> (c as u32) == 0
+    let from = conditions.0;
+    if from < Suite::CONDITIONS {
+        word >> (from as u32) == 0
     } else {
         true
     }
