@@ -1,18 +1,18 @@
 -- Each refusal is given exactly when document 01 says: 1, 3, 7 and 10; and the order of checks in plain logic.
 -- Assumes nothing.
-use mathlib.Core.Path.{_≡_, refl, sym, _∙_, ap}
+use mathlib.Core.Path.{_≡_, refl}
 use mathlib.Core.Logic.{_↔_, _⊎_, inl, inr, ⊎-elim, ⊎-map, Iff·trans}
 use mathlib.Core.Bool.{Bool, true, false, cond, _&&_, So, and-eq-true-iff, false≢true}
 use Prim.Native.Nat.{ℕ, _≤_, _<_, _/_, _%_}
 use native.Mathlib.Omega.{arith}
-use native.Mathlib.Decide.{ℕ-discrete, decLt}
+use native.Mathlib.Decide.{decLt}
 use borrow.Author.Tests.{leb-true, le-leb, eqb-true, eq-eqb}
-use lib.Dec.{leb, eqb}
+use lib.Dec.{leb}
 use Rattle.figures.specs.declared.Place.{Place}
 use Rattle.figures.specs.declared.Place.the-variants as place
 use Rattle.figures.specs.declared.Refusal.{Refusal}
 use Rattle.figures.specs.declared.Refusal.the-variants.{FileBytes, Counts, TableLength, RunLength}
-use Rattle.figures.specs.Refusals.{Outcome, refusal, numberOf, placeOf, _then_}
+use Rattle.figures.specs.Refusals.{Outcome, refusal}
 use Rattle.figures.specs.Refusals.Outcome.{refused, gives}
 use Rattle.figures.specs.Limits.{within, countsWithin, rowsWithin, rowBytes, suiteOf, fileOf, tableOf, requirementOf, runOf, mostConditions, mostRequirements, mostRuns, mostRequirementRows, mostTableRows, mostSteps, leastBytes, mostBytes}
 

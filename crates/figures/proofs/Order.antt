@@ -1,14 +1,14 @@
 -- Checks in order: which refusal is given, in plain logic. A check has one number, and a later one is asked where the earlier pass.
 -- Assumes nothing.
 use mathlib.Core.Path.{_≡_, refl, sym, _∙_, ap}
-use mathlib.Core.Logic.{_↔_, Iff·trans}
+use mathlib.Core.Logic.{_↔_}
 use mathlib.Core.Bool.{Bool, true, false, cond, So}
 use mathlib.Core.Option.{Option, none, some}
-use Prim.Native.Nat.{ℕ, _<_}
+use Prim.Native.Nat.{ℕ}
 use native.Mathlib.Omega.{arith}
 use Rattle.figures.specs.declared.Place.{Place}
 use Rattle.figures.specs.declared.Refusal.{Refusal}
-use Rattle.figures.specs.Refusals.{Outcome, refusal, numberOf, placeOf, _then_}
+use Rattle.figures.specs.Refusals.{Outcome, refusal, numberOf, _then_}
 use Rattle.figures.specs.Refusals.Outcome.{refused, gives}
 use Rattle.figures.specs.Numbers.{lowest, refusedAt}
 use Rattle.figures.proofs.Given.{not-both}

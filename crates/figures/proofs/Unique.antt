@@ -1,8 +1,7 @@
 -- Uniqueness: an answer is determined by what it says, so two answers that a contract allows are equal.
 -- Assumes nothing.
 use mathlib.Core.Path.{_≡_, refl, sym, _∙_, ap}
-use mathlib.Core.Bool.{Bool}
-use mathlib.Core.List.{List, [], _∷_}
+use mathlib.Core.List.{[], _∷_}
 use Prim.Native.Nat.{ℕ}
 use lib.ListN.{getD}
 use Rattle.figures.specs.declared.ByteOffset.{ByteOffset}

@@ -1,9 +1,6 @@
 -- The refusals: document 01, "Answers by number".
 -- Assumes nothing.
 use Prim.Native.Nat.{ℕ}
-use Rattle.figures.specs.declared.ByteOffset.{ByteOffset}
-use Rattle.figures.specs.declared.RowNumber.{RowNumber}
-use Rattle.figures.specs.declared.StepNumber.{StepNumber}
 use Rattle.figures.specs.declared.Place.{Place}
 use Rattle.figures.specs.declared.Place.the-variants as place
 use Rattle.figures.specs.declared.RowPlace.{RowPlace}

@@ -2,18 +2,18 @@
 -- Assumes nothing.
 use mathlib.Core.Path.{_≡_, refl, sym, _∙_, ap, ap₂, subst⁻¹}
 use mathlib.Core.List.{List, [], _∷_, _++_, append-assoc}
-use Prim.Native.Nat.{ℕ, zero, suc, _+_, _-_, _*_, _/_, _%_, _≤_, _<_, min}
+use Prim.Native.Nat.{ℕ, suc, _+_, _-_, _*_, _/_, _≤_, _<_, min}
 use native.Mathlib.Omega.{arith}
 use native.Mathlib.Numerals.{add-one}
 use native.Mathlib.Nat.{add-zero}
-use native.Mathlib.Decide.{ℕ-discrete, decLt}
+use native.Mathlib.Decide.{decLt}
 use borrow.Rule.Slice.PartMut.{putMid}
 use lib.ListN.{length, getD, take, drop, set, replicate, length-append, length-drop, length-take, length-replicate}
-use lib.Seq.{take-suc, take-all, take-at, drop-at, take-add, drop-drop, getD-drop, set-at, ext-getD}
+use lib.Seq.{take-suc, take-all, take-at, drop-at, drop-drop, getD-drop, set-at}
 use Rattle.figures.proofs.Parts.{rest-lent, rest-back}
 use Rattle.figures.specs.Limits.{rowBytes}
 use Rattle.figures.specs.Numbers.{tabulate}
-use Rattle.figures.proofs.Tabulated.{length-tabulate, getD-tabulate, take-tabulate}
+use Rattle.figures.proofs.Tabulated.{length-tabulate, take-tabulate}
 use Rattle.rows.specs.Rows.{Row, row, rowAt}
 use Rattle.rows.specs.Codec.{rowOf, rowsOf, padded, bytesOfRow, bytesOf}
 
@@ -125,3 +125,12 @@ module _ (table : List ℕ) (many : ℕ) (l : length table / rowBytes ≤ many) 
       ∙ length-append (rowsOf table) _
       ∙ omega
       (arith, length-tabulate (rowOf table) (length table / rowBytes), length-replicate (many - length table / rowBytes) (row 0 0 0))
+
+pub length-rowsOf : (table : List ℕ) → length (rowsOf table) ≡ length table / rowBytes
+length-rowsOf table = length-tabulate (rowOf table) (length table / rowBytes)
+
+-- the same of the array that `decode` gives
+pub decoded-front :
+    (table : List ℕ) (rows : List Row) (many : ℕ) → length table / rowBytes ≤ many → rows ≡ padded many (rowsOf table) →
+    take (length table / rowBytes) rows ≡ rowsOf table
+decoded-front table rows many l e = ap (take (length table / rowBytes)) e ∙ decoded table many l

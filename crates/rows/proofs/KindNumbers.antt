@@ -5,7 +5,7 @@ use Prim.Native.Nat.{ℕ, suc, _≤_}
 use native.Mathlib.Omega.{arith}
 use native.Mathlib.Decide.{ℕ-discrete}
 use lib.ListN.{List·getD-eq-default}
-use Rattle.rows.specs.Rows.{Kind, kinds, kindOf}
+use Rattle.rows.specs.Rows.{kinds, kindOf}
 use Rattle.rows.specs.Rows.Kind.{Unknown}
 
 -- what holds of two neighbours holds in their range

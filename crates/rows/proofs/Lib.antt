@@ -5,3 +5,4 @@ pub mod Sound
 pub mod Sized
 pub mod Given
 pub mod RoundTrip
+pub mod Occurring

@@ -1,6 +1,6 @@
 -- What the checks behind 8 and 9 give: a sound row names lower rows and its fields are small; rows as required are a requirement.
 -- Assumes nothing.
-use mathlib.Core.Path.{_≡_, refl}
+use mathlib.Core.Path.{refl}
 use mathlib.Core.Logic.{_↔_}
 use mathlib.Core.Bool.{Bool, true, false, not, _&&_, _||_, So, and-eq-true-iff, false≢true}
 use mathlib.Core.List.{List}
@@ -13,7 +13,7 @@ use Rattle.figures.proofs.Lowest.{Holds}
 use Rattle.rows.specs.declared.Fields.{Fields}
 use Rattle.rows.specs.declared.Fields.the-variants as fields
 use Rattle.rows.specs.Rows.{Row, kind, first, second, rowAt, fieldsOf, namedBy, named}
-use Rattle.rows.specs.Checks.{fieldsSound, rowSound, namings, namedOnce, notOverCondition, isNot, isCondition, All, IsRequirement}
+use Rattle.rows.specs.Checks.{fieldsSound, rowSound, namedOnce, notOverCondition, All, IsRequirement}
 
 module _ (conditions r a b : ℕ) where
   parts : (x y : Bool) → So (x && y) → So x × So y

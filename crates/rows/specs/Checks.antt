@@ -1,22 +1,23 @@
 -- The checks behind refusals 8 and 9, and the occurrences of a requirement.
 -- Assumes nothing.
 use mathlib.Core.Path.{_≡_}
-use mathlib.Core.Bool.{Bool, true, false, not, cond, _&&_, _||_, So}
+use mathlib.Core.Bool.{Bool, false, not, cond, _&&_, _||_, So}
 use mathlib.Core.List.{List, [], _∷_}
 use mathlib.Core.Option.{Option, none, some}
 use Prim.Native.Nat.{ℕ, zero, suc, _+_, _<_}
 use lib.Dec.{ltb, eqb}
-use lib.ListN.{length}
-use Rattle.figures.specs.declared.RowNumber.{RowNumber}
+use lib.ListN.{length, getElem?}
 use Rattle.figures.specs.declared.RowPlace.{RowPlace}
 use Rattle.figures.specs.declared.RowPlace.the-variants as row-place
-use Rattle.figures.specs.declared.Refusal.the-variants.{UnsoundRow, NotRequirement}
-use Rattle.figures.specs.Refusals.{Outcome, _then_}
+use Rattle.figures.specs.declared.Refusal.the-variants.{UnsoundRow, NotRequirement, NoSuch}
+use Rattle.figures.specs.Refusals.{Outcome, refusal, _then_}
 use Rattle.figures.specs.Refusals.Outcome.{gives}
 use Rattle.figures.specs.Limits.{suiteOf, tableOf, requirementOf}
 use Rattle.figures.specs.Numbers.{below, lowest, refusedAt}
 use Rattle.rows.specs.declared.Fields.{Fields}
 use Rattle.rows.specs.declared.Fields.the-variants as fields
+use Rattle.rows.specs.declared.OccurrenceAnswer.{OccurrenceAnswer}
+use Rattle.rows.specs.declared.OccurrenceAnswer.the-variants as occurrence-answer
 use Rattle.rows.specs.declared.RowFound.{RowFound}
 use Rattle.rows.specs.declared.RowFound.the-variants as row-found
 use Rattle.rows.specs.Rows.{Row, kindNumber, kind, first, second, rowAt, fieldsOf, named}
@@ -94,6 +95,18 @@ rowsChecked conditions rows = refusedAt (λ r. UnsoundRow (loneRow r)) (lowestUn
 abbrev pub requirementChecked : List Row → Outcome (Unit {0})
 requirementChecked rows = refusedAt (λ r. NotRequirement (loneRow r)) (lowestUnrequired rows)
 
+-- 8 over all rows before 9
+abbrev pub requirementRows : ℕ → List Row → Outcome (Unit {0})
+requirementRows conditions rows = rowsChecked conditions rows then λ _. requirementChecked rows
+
+-- 12, "no such occurrence"; else its row
+abbrev pub occurrenceAt : Option ℕ → Outcome ℕ
+occurrenceAt none = refusal NoSuch
+occurrenceAt (some r) = gives r
+
+abbrev pub occurrenceOf : List Row → ℕ → Outcome ℕ
+occurrenceOf rows k = occurrenceAt (getElem? (occurrences rows) k)
+
 -- 3 and 7 on a lone formula table, and on a lone requirement, of so many bytes
 abbrev pub tableSized : ℕ → ℕ → Outcome (Unit {0})
 tableSized conditions bytes = suiteOf conditions 1 1 then λ _. tableOf bytes then λ _. gives tt
@@ -105,3 +118,8 @@ requirementSized conditions bytes = suiteOf conditions 1 1 then λ _. requiremen
 abbrev pub foundRow : RowFound → Option ℕ
 foundRow (row-found.At r) = some (r .0)
 foundRow row-found.Nowhere = none
+
+-- what asking for an occurrence's row answers
+abbrev pub occurrenceSays : OccurrenceAnswer → Outcome ℕ
+occurrenceSays (occurrence-answer.Row r) = gives (r .0)
+occurrenceSays (occurrence-answer.Refused r) = refusal r

@@ -9,7 +9,7 @@ ghost use Rattle.figures.specs.Limits.{mostTableRows};
 ghost use Rattle.figures.specs.Refusals.{checkSays};
 ghost use Rattle.rows.specs.Rows.{kindOf, fieldsOf, named, rowAt};
 ghost use Rattle.rows.specs.Codec.{rowsOf, padded, rowOf, bytesOfRow, encodedSays, encodeOf, encoded};
-ghost use Rattle.rows.specs.Checks.{rowSound, lowestUnsound, foundRow, isCondition, times, namings, namedOnce, notOverCondition, lowestUnrequired, occurrences, tableSized, requirementSized, rowsChecked, requirementChecked};
+ghost use Rattle.rows.specs.Checks.{rowSound, lowestUnsound, foundRow, isCondition, times, namings, namedOnce, notOverCondition, lowestUnrequired, occurrences, tableSized, requirementSized, rowsChecked, requirementChecked, requirementRows, occurrenceSays, occurrenceOf};
 use figures::ByteCount;
 use figures::Check;
 use figures::ConditionCount;
@@ -43,6 +43,12 @@ pub enum RowFound {
 // What writing rows into lent bytes answers.
 pub enum Encoded {
     Written(ByteCount),
+    Refused(Refusal),
+}
+
+// What asking for an occurrence's row answers.
+pub enum OccurrenceAnswer {
+    Row(RowNumber),
     Refused(Refusal),
 }
 
@@ -306,5 +312,25 @@ pub fn check_required(rows: &[[u16; 3]]) -> Check
     match lowest_unrequired(rows) {
         RowFound::At(r) => Check::Refused(Refusal::NotRequirement(RowPlace::Lone(r))),
         RowFound::Nowhere => Check::Passed,
+    }
+}
+
+// Refusals 8 and 9 of a lone requirement, 8 over all its rows before 9.
+pub fn check_requirement_rows(rows: &[[u16; 3]], conditions: ConditionCount) -> Check
+    ensures { λ r. ⌜ checkSays r ≡ requirementRows (conditions .0) (now (rows .entry)) ⌝ }
+{
+    if let Check::Refused(r) = check_rows(rows, conditions) {
+        return Check::Refused(r);
+    }
+    check_required(rows)
+}
+
+// The row of an occurrence, or refusal 12.
+pub fn occurrence_of(rows: &[[u16; 3]], occurrence: OccurrenceNumber) -> OccurrenceAnswer
+    ensures { λ r. ⌜ occurrenceSays r ≡ occurrenceOf (now (rows .entry)) (occurrence .0) ⌝ }
+{
+    match occurrence_row(rows, occurrence) {
+        RowFound::At(r) => OccurrenceAnswer::Row(r),
+        RowFound::Nowhere => OccurrenceAnswer::Refused(Refusal::NoSuch),
     }
 }

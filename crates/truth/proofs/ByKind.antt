@@ -35,13 +35,14 @@ needs-of fields.OneRow o x y h = h
 needs-of fields.TwoRows o x y h = and-eq-true-iff x y .1 h
 needs-of fields.Unknown o x y h = refl
 
--- what holds of the rows named holds where it is needed
-pub needs-named : (f : Fields) (P : ℕ → Type 0) (a b : ℕ) {O : Type 0} → O → All P (namedBy f a b) → Needs f O (P a) (P b)
-needs-named fields.Neither P a b o h = tt
-needs-named fields.Condition P a b o h = o
-needs-named fields.OneRow P a b o h = h .0
-needs-named fields.TwoRows P a b o h = (h .0, h .1 .0)
-needs-named fields.Unknown P a b o h = tt
+-- what holds of the rows named gives what is needed
+pub needs-named :
+    (f : Fields) (P : ℕ → Type 0) (a b : ℕ) {O X Y : Type 0} → O → (P a → X) → (P b → Y) → All P (namedBy f a b) → Needs f O X Y
+needs-named fields.Neither P a b o x y h = tt
+needs-named fields.Condition P a b o x y h = o
+needs-named fields.OneRow P a b o x y h = x (h .0)
+needs-named fields.TwoRows P a b o x y h = (x (h .0), y (h .1 .0))
+needs-named fields.Unknown P a b o x y h = tt
 
 -- a test of a kind and its number, at the kinds of a list that have the numbers from 0 on
 abbrev pub inOrder : (ℕ → Kind → Bool) → List Kind → Bool

@@ -16,7 +16,6 @@ use Rattle.truth.specs.Column.{cell}
 use Rattle.truth.proofs.Bools.{_⇒_, _==_, equal, same, apply, Test, all, at}
 use Rattle.truth.proofs.ByKind.{needs, needs-of, needs-named, by-kind}
 use Rattle.truth.proofs.Unfold.{FromEnd, until-unfolds, release-unfolds, finally-unfolds, globally-unfolds, weak-until-unfolds}
-use Rattle.truth.proofs.Model.{All-map}
 use Rattle.truth.proofs.Plain.{or-means}
 
 -- the cells of a kind are F, with e for the next value at the last step
@@ -76,21 +75,18 @@ pub cell-cong :
     All (λ j. (f j ≡ f′ j) × (g j ≡ g′ j)) (namedBy (fieldsOf k) a b) →
     cell k own (f a) (f b) (g a) s last ≡ cell k own (f′ a) (f′ b) (g′ a) s last
 cell-cong k own s last f f′ g g′ a b h =
-    equal _ _ (apply _ _ (at 10 (test k) (by-kind (λ k. all 10 (test k)) refl refl k) own (f a) (f′ a) (g a) (g′ a) (f b) (f′ b) (g b == g′ b) s last) needed)
+    equal _ _
+    (apply _ _ (at 9 (test k) (by-kind (λ k. all 9 (test k)) refl refl k) own (f a) (f′ a) (g a) (g′ a) (f b) (f′ b) s last)
+    (needs-of (fieldsOf k) _ _ _
+    (needs-named (fieldsOf k) (λ j. (f j ≡ f′ j) × (g j ≡ g′ j)) a b refl
+    (λ e. and-eq-true-iff _ _ .1 (same _ _ (e .0), same _ _ (e .1)))
+    (λ e. same _ _ (e .0))
+    h)))
   where
-    test : Kind → Test 10
+    test : Kind → Test 9
     test k =
-        λ own a a′ x x′ b b′ more s last.
-        needs (fieldsOf k) true ((a == a′) && (x == x′)) ((b == b′) && more) ⇒ cell k own a b x s last == cell k own a′ b′ x′ s last
-
-    agrees : ℕ → Bool
-    agrees j = (f j == f′ j) && (g j == g′ j)
-
-    needed : So (needs (fieldsOf k) true (agrees a) (agrees b))
-    needed =
-        needs-of (fieldsOf k) _ _ _
-        (needs-named (fieldsOf k) (λ j. So (agrees j)) a b refl
-        (All-map (namedBy (fieldsOf k) a b) (λ j e. and-eq-true-iff _ _ .1 (same _ _ (e .0), same _ _ (e .1))) h))
+        λ own a a′ x x′ b b′ s last.
+        needs (fieldsOf k) true ((a == a′) && (x == x′)) (b == b′) ⇒ cell k own a b x s last == cell k own a′ b′ x′ s last
 
 -- at the last step no next value counts
 pub cell-last : (k : Kind) (own a b x y x′ y′ : Bool) → cell k own a b x y true ≡ cell k own a b x′ y′ true

@@ -1,7 +1,7 @@
 -- The column engine: a column grows by one value; and a column that is right for a step, from one that is right for the next.
 -- Assumes nothing.
 use mathlib.Core.Path.{_≡_, refl, sym, _∙_, ap, subst}
-use mathlib.Core.Bool.{Bool, true, false}
+use mathlib.Core.Bool.{Bool, true, false, cond}
 use mathlib.Core.List.{List}
 use Prim.Native.Nat.{ℕ, suc, _+_, _<_, _≤_}
 use native.Mathlib.Omega.{arith}
@@ -13,9 +13,11 @@ use lib.Seq.{getD-set-same, getD-set-other}
 use Rattle.figures.specs.Limits.{mostTableRows}
 use Rattle.rows.specs.Rows.{Kind, Row, kind, first, second, rowAt, named}
 use Rattle.rows.specs.Checks.{All}
+use Rattle.truth.specs.declared.Flip.{Flip}
+use Rattle.truth.specs.declared.Flip.the-variants as flips
 use Rattle.truth.specs.Signals.{Signal}
-use Rattle.truth.specs.Truth.{Reading, truthOf}
-use Rattle.truth.specs.Column.{cell, cellOf, Cells, Fit}
+use Rattle.truth.specs.Truth.{Reading, ownOf, readsOf, truthOf}
+use Rattle.truth.specs.Column.{cell, cellOf, Cells, Fit, ownBy, readsAt, readingOf, sequenceOf}
 use Rattle.truth.proofs.Model.{All-map, lower-induction, truth-model}
 use Rattle.truth.proofs.Cells.{row-cell, cell-cong, cell-last}
 
@@ -85,3 +87,14 @@ module _ (rows : List Row) (fit : Fit rows) (reads : Reading) (n i : ℕ) (l : i
               ap (λ (x : Bool). cell K (reads r i) (getD here a false) (getD here b false) (getD after a false) x false) (right r lr)
               ∙ cell-cong K (reads r i) (t r (suc i)) false (λ k. getD here k false) (λ k. t k i) (λ k. getD after k false) (λ k. t k (suc i)) a b
               (All-map (named (rowAt rows r)) (λ k q. let m = q .0 in (q .1, right k (omega arith))) below)
+
+-- what the rows read at a step is their reading at that step
+pub read-there :
+    (rows : List Row) (run : List ℕ) (f : Flip) (sequence : List ℕ) (i r : ℕ) →
+    ownBy rows (readsAt (getD run i 0) f sequence i) r ≡ readingOf rows run f sequence r i
+read-there rows run flips.Nowhere sequence i r = refl
+read-there rows run (flips.At p) sequence i r = go (eqb r (p .0))
+  where
+    go : (b : Bool) → cond b (sequenceOf sequence i) (ownOf rows (getD run i 0) r) ≡ cond b (sequenceOf sequence) (readsOf rows run r) i
+    go true = refl
+    go false = refl

@@ -46,7 +46,7 @@ pub row-cong :
     (n : ℕ) (v w : ℕ → Signal) (own own′ : Signal) (r : Row) → own ≡ own′ → All (λ k. v k ≡ w k) (named r) →
     rowMeaning n v own r ≡ rowMeaning n w own′ r
 row-cong n v w own own′ r e h =
-    meaning-cong n v w own own′ (kind r) _ _ _ _ (needs-named (fieldsOf (kind r)) (λ k. v k ≡ w k) (first r) (second r) e h)
+    meaning-cong n v w own own′ (kind r) _ _ _ _ (needs-named (fieldsOf (kind r)) (λ k. v k ≡ w k) (first r) (second r) e (λ q. q) (λ q. q) h)
 
 -- what holds of a row if it holds of the lower rows that it names holds of every row
 pub lower-induction :

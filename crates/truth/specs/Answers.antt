@@ -5,7 +5,6 @@ use mathlib.Core.List.{List}
 use mathlib.Core.Option.{Option, none, some}
 use Prim.Native.Nat.{ℕ}
 use lib.ListN.{length}
-use Rattle.figures.specs.declared.StepPlace.{StepPlace}
 use Rattle.figures.specs.declared.StepPlace.the-variants as step-place
 use Rattle.figures.specs.declared.Refusal.the-variants.{StrayBit}
 use Rattle.figures.specs.Refusals.{Outcome, refusal, _then_}

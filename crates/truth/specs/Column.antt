@@ -1,14 +1,21 @@
 -- The column engine, one step at a time. What it computes is proved to be truth; nobody needs to believe this page.
 -- Assumes nothing.
 use mathlib.Core.Path.{_≡_}
-use mathlib.Core.Bool.{Bool, true, false, not, _&&_, _||_}
+use mathlib.Core.Bool.{Bool, true, false, not, cond, _&&_, _||_}
 use mathlib.Core.List.{List}
 use Prim.Native.Nat.{ℕ, _<_, _≤_}
+use lib.Dec.{eqb}
 use lib.ListN.{length, getD}
 use Rattle.figures.specs.Limits.{mostTableRows}
 use Rattle.rows.specs.Rows.{Kind, Row, kind, first, second, rowAt, named}
 use Rattle.rows.specs.Rows.Kind.{False, True, Condition, Not, And, Or, Strong-next, Weak-next, Until, Release, Finally, Globally, Weak-until, Unknown}
 use Rattle.rows.specs.Checks.{All}
+use Rattle.truth.specs.declared.Flip.{Flip}
+use Rattle.truth.specs.declared.Flip.the-variants as flips
+use Rattle.truth.specs.declared.Reads.{Reads}
+use Rattle.truth.specs.declared.Reads.the-variants as reads
+use Rattle.truth.specs.Signals.{Signal}
+use Rattle.truth.specs.Truth.{Reading, bit, readsOf, flip}
 
 -- own: what a condition reads; a, b: the children now; a-next, next: the first child and the row itself at the next step; last: there is none
 abbrev pub cell : Kind → Bool → Bool → Bool → Bool → Bool → Bool → Bool
@@ -43,3 +50,24 @@ pub record Fit (rows : List Row) : Type 0 where
   pub first-inside : (r : ℕ) → r < length rows → first (rowAt rows r) < mostTableRows
   pub second-inside : (r : ℕ) → r < length rows → second (rowAt rows r) < mostTableRows
   pub lower : (r : ℕ) → r < length rows → All (λ k. k < r) (named (rowAt rows r))
+
+-- what a condition row reads at a step, from its word or, at a flipped row, a value of its own
+abbrev pub readOf : Reads → ℕ → ℕ → Bool
+readOf (reads.Word word) condition r = bit word condition
+readOf (reads.Flipped word p value) condition r = cond (eqb r (p .0)) value (bit word condition)
+
+abbrev pub ownBy : List Row → Reads → ℕ → Bool
+ownBy rows what r = readOf what (first (rowAt rows r)) r
+
+-- a lent sequence, a byte a step: not 0 for true
+abbrev pub sequenceOf : List ℕ → Signal
+sequenceOf sequence i = not (eqb (getD sequence i 0) 0)
+
+abbrev pub readsAt : ℕ → Flip → List ℕ → ℕ → Reads
+readsAt word flips.Nowhere sequence i = reads.Word word
+readsAt word (flips.At p) sequence i = reads.Flipped word p (sequenceOf sequence i)
+
+-- what the condition rows read of a run, one of them perhaps a sequence
+abbrev pub readingOf : List Row → List ℕ → Flip → List ℕ → Reading
+readingOf rows run flips.Nowhere sequence = readsOf rows run
+readingOf rows run (flips.At p) sequence = flip (p .0) (sequenceOf sequence) (readsOf rows run)

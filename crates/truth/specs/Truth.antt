@@ -1,6 +1,6 @@
 -- The truth of a row at a step of a run, and the verdict: document 01, "Truth over a run".
 -- Assumes nothing.
-use mathlib.Core.Bool.{Bool, true, false, not, _&&_}
+use mathlib.Core.Bool.{Bool, true, false, not, cond, _&&_}
 use mathlib.Core.List.{List}
 use mathlib.Core.Option.{Option}
 use Prim.Native.Nat.{ℕ, zero, suc, _-_, _^_, _/_, _%_}
@@ -55,6 +55,10 @@ ownOf rows word r = bit word (first (rowAt rows r))
 
 abbrev pub readsOf : List Row → List ℕ → Reading
 readsOf rows run r i = ownOf rows (getD run i 0) r
+
+-- "read by that occurrence in place of its condition while all other occurrences read the run"; p is the occurrence's row
+abbrev pub flip : ℕ → Signal → Reading → Reading
+flip p u reads r = cond (eqb r p) u (reads r)
 
 -- "The formula is the last row", "The verdict is the truth at step 0"
 abbrev pub verdictOf : List Row → Reading → ℕ → Bool

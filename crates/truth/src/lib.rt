@@ -5,14 +5,15 @@ ghost use lib.ListN.{length};
 ghost use Rattle.figures.specs.Limits.{mostTableRows, mostConditions};
 ghost use Rattle.figures.specs.Refusals.{checkSays};
 ghost use Rattle.rows.specs.Rows.{kindOf};
-ghost use Rattle.truth.specs.Truth.{bit, wordSound, ownOf, lowestStray, holds};
-ghost use Rattle.truth.specs.Column.{cell, Cells, Fit};
+ghost use Rattle.truth.specs.Truth.{bit, wordSound, lowestStray, verdictOf};
+ghost use Rattle.truth.specs.Column.{cell, Cells, Fit, readOf, readsAt, ownBy, readingOf};
 ghost use Rattle.truth.specs.Answers.{foundStep, runChecked, verdictSays, rowsSay, truthSays};
 use figures::ByteCount;
 use figures::Check;
 use figures::ConditionCount;
 use figures::ConditionNumber;
 use figures::Refusal;
+use figures::RowNumber;
 use figures::Run;
 use figures::RunAnswer;
 use figures::StepCount;
@@ -32,6 +33,18 @@ pub enum Verdict {
 pub enum StepFound {
     At(StepNumber),
     Nowhere,
+}
+
+// Which row, if any, reads a sequence of its own in place of its condition.
+pub enum Flip {
+    Nowhere,
+    At(RowNumber),
+}
+
+// What the condition rows read at a step: its word, and at one row, if any, a value of its own.
+pub enum Reads {
+    Word(u32),
+    Flipped(u32, RowNumber, bool),
 }
 
 // Whether a step's word holds a condition.
@@ -112,10 +125,44 @@ fn index_of(field: u16) -> usize
     field as usize
 }
 
-// The column of the step in hand, from its word and the column of the step after it.
+// What a row that reads a condition reads at a step.
+fn read(reads: Reads, condition: ConditionNumber, r: RowNumber) -> bool
+    ensures { λ b. ⌜ b ≡ readOf reads (condition .0) (r .0) ⌝ }
+{
+    match reads {
+        Reads::Word(word) => bit_of(word, condition),
+        Reads::Flipped(word, flipped, value) => {
+            let at = flipped.0;
+            if r.0 == at {
+                value
+            } else {
+                bit_of(word, condition)
+            }
+        }
+    }
+}
+
+// What the condition rows read at step i: past the end of the sequence a flipped row reads false.
+fn reads_at(word: u32, flip: Flip, sequence: &[u8], i: StepNumber) -> Reads
+    ensures { λ r. ⌜ r ≡ readsAt word flip (now (sequence .entry)) (i .0) ⌝ }
+{
+    match flip {
+        Flip::Nowhere => Reads::Word(word),
+        Flip::At(flipped) => {
+            let at = i.0;
+            if at < sequence.len() {
+                Reads::Flipped(word, flipped, sequence[at] != 0)
+            } else {
+                Reads::Flipped(word, flipped, false)
+            }
+        }
+    }
+}
+
+// The column of the step in hand, from what is read at it and the column of the step after it.
 fn column(
     rows: &[[u16; 3]],
-    word: u32,
+    reads: Reads,
     after: &[bool; Table::ROWS],
     last: bool,
     here: &mut [bool; Table::ROWS],
@@ -123,14 +170,14 @@ fn column(
     requires { ⌜ Fit (now rows) ⌝ }
     requires { ⌜ length (now here) ≡ mostTableRows ⌝ }
     ensures { λ _. ⌜ length (now (here .exit)) ≡ mostTableRows ⌝ }
-    ensures { λ _. ⌜ Cells (now (rows .entry)) (ownOf (now (rows .entry)) word) (now (after .entry)) last (now (here .exit)) (length (now (rows .entry))) ⌝ }
+    ensures { λ _. ⌜ Cells (now (rows .entry)) (ownBy (now (rows .entry)) reads) (now (after .entry)) last (now (here .exit)) (length (now (rows .entry))) ⌝ }
 {
     let mut r = 0;
     while r < rows.len() {
         let row = rows[r];
         let first = index_of(row[1]);
         let second = index_of(row[2]);
-        let own = bit_of(word, ConditionNumber(first));
+        let own = read(reads, ConditionNumber(first), RowNumber(r));
         here[r] = cell(
             row[0],
             own,
@@ -144,10 +191,11 @@ fn column(
     }
 }
 
-// The verdict of a formula over a run, from the last step to the first.
-fn judge(rows: &[[u16; 3]], run: &[u32]) -> bool
+// The verdict of a formula over a run, from the last step to the first; one row may read a lent sequence, a byte a step, not 0
+// for true.
+pub fn judge(rows: &[[u16; 3]], run: &[u32], flip: Flip, sequence: &[u8]) -> bool
     requires { ⌜ Fit (now rows) × (0 < length (now rows)) × (0 < length (now run)) ⌝ }
-    ensures { λ r. ⌜ r ≡ holds (now (rows .entry)) (now (run .entry)) ⌝ }
+    ensures { λ r. ⌜ r ≡ verdictOf (now (rows .entry)) (readingOf (now (rows .entry)) (now (run .entry)) flip (now (sequence .entry))) (length (now (run .entry))) ⌝ }
 {
     let steps = run.len();
     let mut here = [false; Table::ROWS];
@@ -155,7 +203,8 @@ fn judge(rows: &[[u16; 3]], run: &[u32]) -> bool
     let mut i = steps;
     while 0 < i {
         i -= 1;
-        column(rows, run[i], &after, i + 1 == steps, &mut here);
+        let reads = reads_at(run[i], flip, sequence, StepNumber(i));
+        column(rows, reads, &after, i + 1 == steps, &mut here);
         after = here;
     }
     after[rows.len() - 1]
@@ -172,7 +221,7 @@ fn truth_of_rows(rows: &[[u16; 3]], run: &[u32], conditions: ConditionCount) -> 
     if let Check::Refused(r) = check_run(run, conditions) {
         return Verdict::Refused(r);
     }
-    if judge(rows, run) {
+    if judge(rows, run, Flip::Nowhere, b"") {
         Verdict::Holds
     } else {
         Verdict::Fails

@@ -10,13 +10,6 @@ use lib.Seq.{take-length}
 use Rattle.figures.specs.Limits.{rowBytes}
 use Rattle.rows.specs.Codec.{bytesOf, fits, encodeOf, encoded}
 use Rattle.rows.proofs.Bytes.{written, length-written, write-more}
-use Prim.Native.Nat.{_+_, _*_, _-_, _≤_}
-use borrow.Author.Tests.{lt-leb}
-use Rattle.rows.specs.Codec.{encodeOf, encoded}
-use mathlib.Core.Path.{_≡_, refl}
-use Prim.Native.Nat.{_*_, _-_, _≤_}
-use lib.ListN.{length}
-use Rattle.rows.proofs.Bytes.{written}
 use Rattle.rows.proofs.encode.Statement.{statement}
 use Rattle.rows.proofs.encode.Tie as tie
 

@@ -9,7 +9,6 @@ use lib.ListN.{length}
 use Rattle.rows.specs.Rows.{rowAt, kind, first, second, fieldsOf}
 use Rattle.rows.specs.Checks.{namings}
 use Rattle.rows.proofs.Named.{at-most-two}
-use mathlib.Core.Path.{_≡_, refl}
 use Rattle.rows.proofs.namings.Statement.{statement}
 use Rattle.rows.proofs.namings.Tie as tie
 

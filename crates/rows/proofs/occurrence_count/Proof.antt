@@ -9,8 +9,6 @@ use Rattle.figures.specs.Numbers.{below}
 use Rattle.figures.proofs.Below.{length-more}
 use Rattle.rows.specs.Checks.{conditionAt}
 use Rattle.rows.proofs.Named.{one-of, at-most-one}
-use Rattle.rows.proofs.Named.{at-most-one}
-use mathlib.Core.Path.{_≡_, refl}
 use Rattle.rows.proofs.occurrence_count.Statement.{statement}
 use Rattle.rows.proofs.occurrence_count.Tie as tie
 

@@ -10,7 +10,6 @@ use Rattle.figures.specs.Numbers.{below}
 use Rattle.figures.proofs.Below.{length-more, found-at, found-none}
 use Rattle.rows.specs.Checks.{conditionAt}
 use Rattle.rows.proofs.Named.{one-of}
-use mathlib.Core.Path.{_≡_, refl}
 use Rattle.rows.proofs.occurrence_row.Statement.{statement}
 use Rattle.rows.proofs.occurrence_row.Tie as tie
 

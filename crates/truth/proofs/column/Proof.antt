@@ -9,26 +9,26 @@ use lib.ListN.{length, getD, length-set}
 use mathlib.Core.List.{List}
 use Rattle.rows.specs.Rows.{Row, kind, first, second, rowAt}
 use Rattle.figures.specs.Limits.{mostTableRows}
-use Rattle.truth.specs.Truth.{bit, ownOf}
-use Rattle.truth.specs.Column.{cell, cellOf, Cells}
+use Rattle.truth.specs.Column.{cell, cellOf, Cells, readOf, ownBy}
 use Rattle.truth.proofs.Columns.{grown}
+use Rattle.truth.specs.declared.Reads.{Reads}
 use Rattle.truth.proofs.column.Statement.{statement}
 use Rattle.truth.proofs.column.Tie as tie
 
 -- the fields that index the columns are the row's own
 read-at :
-    (rows : List Row) (word : ℕ) (here after : List Bool) (last : Bool) (r : ℕ) {f s : ℕ} {own : Bool} →
-    f ≡ first (rowAt rows r) → s ≡ second (rowAt rows r) → own ≡ bit word f →
+    (rows : List Row) (reads : Reads) (here after : List Bool) (last : Bool) (r : ℕ) {f s : ℕ} {own : Bool} →
+    f ≡ first (rowAt rows r) → s ≡ second (rowAt rows r) → own ≡ readOf reads f r →
     cell (kind (rowAt rows r)) own (getD here f false) (getD here s false) (getD after f false) (getD after r false) last
-    ≡ cellOf (rowAt rows r) (ownOf rows word r) here after r last
-read-at rows word here after last r p q o = rw (o, p, q)
+    ≡ cellOf (rowAt rows r) (ownBy rows reads r) here after r last
+read-at rows reads here after last r p q o = rw (o, p, q)
 
 abbrev Inv-loop : tie.InvT-loop
-Inv-loop rows word after last here₀ r₀ here r =
-    (r ≤ length rows) × (length here ≡ mostTableRows) × Cells rows (ownOf rows word) after last here r
+Inv-loop rows reads after last here₀ r₀ here r =
+    (r ≤ length rows) × (length here ≡ mostTableRows) × Cells rows (ownBy rows reads) after last here r
 
 abbrev μ-loop : tie.MeasureT-loop
-μ-loop rows word after last here₀ r₀ here r = length rows - r
+μ-loop rows reads after last here₀ r₀ here r = length rows - r
 
 loop-holds : tie.Need-loop-holds Inv-loop μ-loop
 loop-holds c = (search needs, c .pre .1, λ r h. absurd (omega arith))
@@ -51,8 +51,8 @@ array-read-index-of-2 c = search needs
 index-of-requires-2 : tie.Need-index-of-requires-2 Inv-loop μ-loop
 index-of-requires-2 c κs = search needs
 
-bit-of-requires : tie.Need-bit-of-requires Inv-loop μ-loop
-bit-of-requires c κs = search needs
+read-requires : tie.Need-read-requires Inv-loop μ-loop
+read-requires c κs = search needs
 
 array-read-cell : tie.Need-array-read-cell Inv-loop μ-loop
 array-read-cell c = search needs
@@ -85,11 +85,10 @@ loop-again : tie.Need-loop-again Inv-loop μ-loop
 loop-again c =
     let q = c .before .before .before .before .before .before .before .before .before .before .loop in
     let a = c .before .before .before .before .before .before .before .before .before .before .before .args in
-    let row = rowAt (a .rows .now) (q .r) in
-    let value = c .cell .ensures ∙ read-at (a .rows .now) (a .word) (q .here) (a .after .now) (a .last) (q .r) (c .before .before .before .before .before .before .before .index-of .ensures) (c .before .before .before .before .before .before .index-of2 .ensures) (c .before .before .before .before .before .bit-of .ensures) in (
+    let value = c .cell .ensures ∙ read-at (a .rows .now) (a .reads) (q .here) (a .after .now) (a .last) (q .r) (c .before .before .before .before .before .before .before .index-of .ensures) (c .before .before .before .before .before .before .index-of2 .ensures) (c .before .before .before .before .before .read .ensures) in (
       omega arith,
       length-set (q .here) (q .r) (c .cell .result) ∙ q .inv .1,
-      grown (a .rows .now) (ownOf (a .rows .now) (a .word)) (a .after .now) (a .last) (c .before .before .before .before .before .before .before .before .before .before .before .pre .0) (q .here) (q .r) (c .cell .result) (omega arith) (q .inv .1)
+      grown (a .rows .now) (ownBy (a .rows .now) (a .reads)) (a .after .now) (a .last) (c .before .before .before .before .before .before .before .before .before .before .before .pre .0) (q .here) (q .r) (c .cell .result) (omega arith) (q .inv .1)
           (q .inv .2) value,
     )
 
@@ -109,7 +108,7 @@ column-spec =
     index-of-requires
     array-read-index-of-2
     index-of-requires-2
-    bit-of-requires
+    read-requires
     array-read-cell
     element-copy-out-cell
     element-copy-out-cell-2

@@ -2,33 +2,17 @@
 -- Assumes nothing.
 use borrow.Author.Needs.{needs}
 use native.Mathlib.Omega.{arith}
-use mathlib.Core.Path.{_≡_, sym, _∙_, ap}
-use Prim.Native.Nat.{ℕ, _/_, _≤_}
-use lib.ListN.{length, take}
+use mathlib.Core.Path.{sym, _∙_, ap}
+use lib.ListN.{length}
 use Rattle.figures.specs.Refusals.{checkSays, _then_}
-use Rattle.figures.specs.Limits.{rowBytes, mostTableRows}
+use Rattle.figures.specs.Limits.{mostTableRows}
 use Rattle.figures.proofs.Known.{said}
-use Rattle.figures.proofs.Tabulated.{length-tabulate}
-use Rattle.rows.specs.Codec.{rowOf, rowsOf, padded}
-use Rattle.rows.proofs.Bytes.{decoded, length-padded}
+use Rattle.rows.specs.Codec.{rowsOf}
+use Rattle.rows.proofs.Bytes.{decoded-front, length-padded, length-rowsOf}
 use Rattle.truth.specs.Answers.{rowsSay, truthSays}
 use Rattle.rows.proofs.Sized.{table-sized}
-use mathlib.Core.List.{List}
-use Rattle.rows.specs.Rows.{Row}
-use mathlib.Core.Path.{sym, ap}
-use lib.ListN.{length}
-use Rattle.figures.specs.Limits.{mostTableRows}
-use Rattle.rows.specs.Codec.{rowsOf}
-use Rattle.rows.proofs.Bytes.{length-padded}
 use Rattle.truth.proofs.truth.Statement.{statement}
 use Rattle.truth.proofs.truth.Tie as tie
-
--- the rows decoded from a table of few rows are the front of the array
-front : (table : List ℕ) (rows : List Row) → length table / rowBytes ≤ mostTableRows → rows ≡ padded mostTableRows (rowsOf table) → take (length table / rowBytes) rows ≡ rowsOf table
-front table rows l e = ap (take (length table / rowBytes)) e ∙ decoded table mostTableRows l
-
-count : (table : List ℕ) → length (rowsOf table) ≡ length table / rowBytes
-count table = length-tabulate (rowOf table) (length table / rowBytes)
 
 check-table-requires : tie.Need-check-table-requires
 check-table-requires c κs = search needs
@@ -58,13 +42,13 @@ slice-aggregate-truth-of-rows : tie.Need-slice-aggregate-truth-of-rows
 slice-aggregate-truth-of-rows c =
     let a = c .before .before .before .before .before .before .before .args in
     let s = table-sized (a .conditions .0) (length (a .table .now)) .0 (tt, sym (said checkSays (λ o. o) (c .before .before .before .before .check-table .ensures) (c .before .before .enum-told .given .1))) in
-    sym (ap length (front (a .table .now) _ (s .1 .1 .1) (c .before .decode .ensures)) ∙ count (a .table .now))
+    sym (ap length (decoded-front (a .table .now) _ mostTableRows (s .1 .1 .1) (c .before .decode .ensures)) ∙ length-rowsOf (a .table .now))
 
 truth-of-rows-requires : tie.Need-truth-of-rows-requires
 truth-of-rows-requires c κs =
     let a = c .before .before .before .before .before .before .before .args in
     let s = table-sized (a .conditions .0) (length (a .table .now)) .0 (tt, sym (said checkSays (λ o. o) (c .before .before .before .before .check-table .ensures) (c .before .before .enum-told .given .1))) in
-    let many = ap length (front (a .table .now) _ (s .1 .1 .1) (c .before .decode .ensures)) ∙ count (a .table .now) in
+    let many = ap length (decoded-front (a .table .now) _ mostTableRows (s .1 .1 .1) (c .before .decode .ensures)) ∙ length-rowsOf (a .table .now) in
     (omega (arith, many, s .1 .1 .0), omega (arith, many, s .1 .1 .1), s .0 .1)
 
 returns-2 : tie.Need-returns-2
@@ -73,7 +57,7 @@ returns-2 c =
     let a = c .before .before .before .before .before .before .before .before .args in
     let s = table-sized (a .conditions .0) (length (a .table .now)) .0 (tt, sym (said checkSays (λ o. o) (c .before .before .before .before .before .check-table .ensures) (c .before .before .before .enum-told .given .1))) in
     c .truth-of-rows .ensures
-    ∙ ap (λ rows. rowsSay rows (a .run .now) (a .conditions .0)) (front (a .table .now) _ (s .1 .1 .1) (c .before .before .decode .ensures))
+    ∙ ap (λ rows. rowsSay rows (a .run .now) (a .conditions .0)) (decoded-front (a .table .now) _ mostTableRows (s .1 .1 .1) (c .before .before .decode .ensures))
     ∙ said checkSays (λ o. o then λ _. rowsSay (rowsOf (a .table .now)) (a .run .now) (a .conditions .0)) (c .before .before .before .before .before .check-table .ensures) (c .before .before .before .enum-told .given .1)
 
 pub truth-spec : {M : Type 1} → statement M

@@ -38,27 +38,28 @@ returns-2 c =
 enum-told-2 : tie.Need-enum-told-2
 enum-told-2 c = search needs
 
+slice-aggregate-judge : tie.Need-slice-aggregate-judge
+slice-aggregate-judge c = search needs
+
 judge-requires : tie.Need-judge-requires
 judge-requires c κs =
-    let a = c .before .before .before .before .before .before .before .args in
-    let p = c .before .before .before .before .before .before .before .pre in
-    let rows = said checkSays (λ o. o) (c .before .before .before .before .before .check-rows .ensures) (c .before .before .before .enum-told .given .1) in
-    let run = said checkSays (λ o. o) (c .before .before .check-run .ensures) (c .enum-told2 .given .1) in
+    let a = c .before .before .before .before .before .before .before .before .args in
+    let p = c .before .before .before .before .before .before .before .before .pre in
+    let rows = said checkSays (λ o. o) (c .before .before .before .before .before .before .check-rows .ensures) (c .before .before .before .before .enum-told .given .1) in
+    let run = said checkSays (λ o. o) (c .before .before .before .check-run .ensures) (c .before .enum-told2 .given .1) in
     (fit (a .conditions .0) (a .rows .now) (tt, sym rows) (p .2) (p .1), p .0, some-step (a .conditions .0) (a .run .now) (tt, sym run))
 
 returns-3 : tie.Need-returns-3
 returns-3 c =
-    let a = c .before .before .before .before .before .before .before .before .before .args in
     known gives (c .before .judge .ensures) (c .if1 .taken)
-    ∙ said checkSays (λ o. o then λ _. (gives (holds (c .before .before .before .before .before .before .before .before .before .args .rows .now) (c .before .before .before .before .before .before .before .before .before .args .run .now)))) (c .before .before .before .before .check-run .ensures) (c .before .before .enum-told2 .given .1)
-    ∙ said checkSays (λ o. o then λ _. (runChecked (c .before .before .before .before .before .before .before .before .before .args .conditions .0) (c .before .before .before .before .before .before .before .before .before .args .run .now) then λ _. gives (holds (c .before .before .before .before .before .before .before .before .before .args .rows .now) (c .before .before .before .before .before .before .before .before .before .args .run .now)))) (c .before .before .before .before .before .before .before .check-rows .ensures) (c .before .before .before .before .before .enum-told .given .1)
+    ∙ said checkSays (λ o. o then λ _. (gives (holds (c .before .before .before .before .before .before .before .before .before .before .args .rows .now) (c .before .before .before .before .before .before .before .before .before .before .args .run .now)))) (c .before .before .before .before .before .check-run .ensures) (c .before .before .before .enum-told2 .given .1)
+    ∙ said checkSays (λ o. o then λ _. (runChecked (c .before .before .before .before .before .before .before .before .before .before .args .conditions .0) (c .before .before .before .before .before .before .before .before .before .before .args .run .now) then λ _. gives (holds (c .before .before .before .before .before .before .before .before .before .before .args .rows .now) (c .before .before .before .before .before .before .before .before .before .before .args .run .now)))) (c .before .before .before .before .before .before .before .before .check-rows .ensures) (c .before .before .before .before .before .before .enum-told .given .1)
 
 returns-4 : tie.Need-returns-4
 returns-4 c =
-    let a = c .before .before .before .before .before .before .before .before .before .args in
     known gives (c .before .judge .ensures) (c .if1 .left)
-    ∙ said checkSays (λ o. o then λ _. (gives (holds (c .before .before .before .before .before .before .before .before .before .args .rows .now) (c .before .before .before .before .before .before .before .before .before .args .run .now)))) (c .before .before .before .before .check-run .ensures) (c .before .before .enum-told2 .given .1)
-    ∙ said checkSays (λ o. o then λ _. (runChecked (c .before .before .before .before .before .before .before .before .before .args .conditions .0) (c .before .before .before .before .before .before .before .before .before .args .run .now) then λ _. gives (holds (c .before .before .before .before .before .before .before .before .before .args .rows .now) (c .before .before .before .before .before .before .before .before .before .args .run .now)))) (c .before .before .before .before .before .before .before .check-rows .ensures) (c .before .before .before .before .before .enum-told .given .1)
+    ∙ said checkSays (λ o. o then λ _. (gives (holds (c .before .before .before .before .before .before .before .before .before .before .args .rows .now) (c .before .before .before .before .before .before .before .before .before .before .args .run .now)))) (c .before .before .before .before .before .check-run .ensures) (c .before .before .before .enum-told2 .given .1)
+    ∙ said checkSays (λ o. o then λ _. (runChecked (c .before .before .before .before .before .before .before .before .before .before .args .conditions .0) (c .before .before .before .before .before .before .before .before .before .before .args .run .now) then λ _. gives (holds (c .before .before .before .before .before .before .before .before .before .before .args .rows .now) (c .before .before .before .before .before .before .before .before .before .before .args .run .now)))) (c .before .before .before .before .before .before .before .before .check-rows .ensures) (c .before .before .before .before .before .before .enum-told .given .1)
 
 pub truth-of-rows-spec : {M : Type 1} → statement M
 truth-of-rows-spec =
@@ -72,6 +73,7 @@ truth-of-rows-spec =
     enum-known-r-2
     returns-2
     enum-told-2
+    slice-aggregate-judge
     judge-requires
     returns-3
     returns-4)

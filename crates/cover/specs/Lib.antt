@@ -1,0 +1,3 @@
+pub mod Coverage
+pub mod Answers
+pub mod Pair

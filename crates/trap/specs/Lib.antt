@@ -1,0 +1,3 @@
+pub mod TrapRows
+pub mod Climbing
+pub mod Answers
