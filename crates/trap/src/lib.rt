@@ -6,6 +6,7 @@ ghost use Prim.Native.Nat.{_+_, _*_, _≤_, _<_};
 ghost use lib.ListN.{length, take, drop, getD};
 ghost use Rattle.figures.specs.Limits.{mostTableRows, mostConditions, mostRequirementRows};
 ghost use Rattle.rows.specs.Rows.{kindOf, named};
+ghost use Rattle.rows.specs.Rows.Kind.{Until, Release, Weak-until};
 ghost use Rattle.rows.specs.Codec.{rowsOf, padded, bytesOf};
 ghost use Rattle.rows.specs.Checks.{occurrences};
 ghost use Rattle.trap.specs.TrapRows.{added, addedCount, sideOf, has, way, trapTable};
@@ -69,6 +70,80 @@ fn added_count(kind: u16, left: bool) -> u16
     }
 }
 
+// What until adds.
+fn until_rows(left: bool, s: u16, c: u16, o: u16, t: u16, z: u16) -> [[u16; 3]; 6]
+    requires { ⌜ z < 60000 ⌝ }
+    ensures { λ r. ⌜ r ≡ padded 6 (added Until (sideOf left) s c o t z) ⌝ }
+{
+    let none = [0u16, 0, 0];
+    if left {
+        [
+            [3, o, 0],
+            [4, t, z],
+            [8, z, z + 1],
+            [4, s, z + 2],
+            none,
+            none,
+        ]
+    } else {
+        [
+            [3, o, 0],
+            [3, c, 0],
+            [5, z + 1, t],
+            [9, z, z + 2],
+            [4, s, z + 3],
+            none,
+        ]
+    }
+}
+
+// What release adds.
+fn release_rows(left: bool, s: u16, c: u16, o: u16, t: u16, z: u16) -> [[u16; 3]; 6]
+    requires { ⌜ z < 60000 ⌝ }
+    ensures { λ r. ⌜ r ≡ padded 6 (added Release (sideOf left) s c o t z) ⌝ }
+{
+    let none = [0u16, 0, 0];
+    if left {
+        [
+            [3, c, 0],
+            [5, z, t],
+            [3, o, 0],
+            [8, z + 1, z + 2],
+            [4, s, z + 3],
+            none,
+        ]
+    } else {
+        [[3, o, 0], [8, z, t], [4, s, z + 1], none, none, none]
+    }
+}
+
+// What weak until adds.
+fn weak_until_rows(left: bool, s: u16, c: u16, o: u16, t: u16, z: u16) -> [[u16; 3]; 6]
+    requires { ⌜ z < 60000 ⌝ }
+    ensures { λ r. ⌜ r ≡ padded 6 (added Weak-until (sideOf left) s c o t z) ⌝ }
+{
+    let none = [0u16, 0, 0];
+    if left {
+        [
+            [3, o, 0],
+            [4, z, t],
+            [8, z, z + 1],
+            [4, s, z + 2],
+            none,
+            none,
+        ]
+    } else {
+        [
+            [3, c, 0],
+            [5, z, t],
+            [3, o, 0],
+            [4, z + 2, z + 1],
+            [8, z + 1, z + 3],
+            [4, s, z + 4],
+        ]
+    }
+}
+
 // The rows that a kind adds, and rows of zeros after them: document 01's table, line by line. z is the first free row.
 fn added_rows(kind: u16, left: bool, s: u16, c: u16, o: u16, t: u16, z: u16) -> [[u16; 3]; 6]
     requires { ⌜ z < 60000 ⌝ }
@@ -81,41 +156,8 @@ fn added_rows(kind: u16, left: bool, s: u16, c: u16, o: u16, t: u16, z: u16) -> 
         4 => [[4, t, o], none, none, none, none, none],
         5 => [[3, o, 0], [4, t, z], none, none, none, none],
         6..=7 => [[6, t, 0], none, none, none, none, none],
-        8 => {
-            if left {
-                [
-                    [3, o, 0],
-                    [4, t, z],
-                    [8, z, z + 1],
-                    [4, s, z + 2],
-                    none,
-                    none,
-                ]
-            } else {
-                [
-                    [3, o, 0],
-                    [3, c, 0],
-                    [5, z + 1, t],
-                    [9, z, z + 2],
-                    [4, s, z + 3],
-                    none,
-                ]
-            }
-        }
-        9 => {
-            if left {
-                [
-                    [3, c, 0],
-                    [5, z, t],
-                    [3, o, 0],
-                    [8, z + 1, z + 2],
-                    [4, s, z + 3],
-                    none,
-                ]
-            } else {
-                [[3, o, 0], [8, z, t], [4, s, z + 1], none, none, none]
-            }
-        }
+        8 => until_rows(left, s, c, o, t, z),
+        9 => release_rows(left, s, c, o, t, z),
         10 => [
             [3, c, 0],
             [5, z, t],
@@ -125,27 +167,7 @@ fn added_rows(kind: u16, left: bool, s: u16, c: u16, o: u16, t: u16, z: u16) -> 
             none,
         ],
         11 => [[10, t, 0], [4, s, z], none, none, none, none],
-        12 => {
-            if left {
-                [
-                    [3, o, 0],
-                    [4, z, t],
-                    [8, z, z + 1],
-                    [4, s, z + 2],
-                    none,
-                    none,
-                ]
-            } else {
-                [
-                    [3, c, 0],
-                    [5, z, t],
-                    [3, o, 0],
-                    [4, z + 2, z + 1],
-                    [8, z + 1, z + 3],
-                    [4, s, z + 4],
-                ]
-            }
-        }
+        12 => weak_until_rows(left, s, c, o, t, z),
         13..=u16::MAX => [none, none, none, none, none, none],
     }
 }

@@ -1,13 +1,16 @@
-// Runs document 01's vectors about truth that are run and not proved, and prints what each answers.
+// Runs document 01's vectors that are run and not proved, and prints what each answers and what it leaves in the lent bytes.
 ghost use mathlib.Core.Path.{_≡_};
 ghost use Prim.Native.Nat.{_+_, _*_};
 ghost use lib.ListN.{length};
 ghost use Rattle.figures.specs.Limits.{rowBytes, mostTableRows};
+use cover::Witnessed;
 use figures::ConditionCount;
+use figures::OccurrenceNumber;
 use figures::Refusal;
 use figures::Run;
 use figures::Table;
 use libc::STDOUT_FILENO;
+use trap::Trapped;
 use truth::Verdict;
 
 fn say_refused(r: Refusal) {
@@ -192,8 +195,168 @@ fn kinds() {
     );
 }
 
+fn wide(byte: u8) -> u64 {
+    byte as u64
+}
+
+// All of the lent bytes, so that those past what was written show too.
+fn say_bytes(out: &[u8]) {
+    let mut i = 0;
+    while i < out.len() {
+        io::write_all(STDOUT_FILENO, b" ");
+        io::print_decimal(STDOUT_FILENO, wide(out[i]));
+        i += 1;
+    }
+    io::write_all(STDOUT_FILENO, b"\n");
+}
+
+fn say_trap(label: &[u8], requirement: &[u8], occurrence: OccurrenceNumber, out: &mut [u8]) {
+    io::write_all(STDOUT_FILENO, label);
+    match trap::trap(requirement, ConditionCount(2), occurrence, out) {
+        Trapped::Written(n) => {
+            io::write_all(STDOUT_FILENO, b": written ");
+            io::print_decimal(STDOUT_FILENO, n.0 as u64);
+            io::write_all(STDOUT_FILENO, b"\n");
+        }
+        Trapped::Refused(r) => say_refused(r),
+    }
+    say_bytes(out);
+}
+
+fn say_witness(
+    label: &[u8],
+    requirement: &[u8],
+    run: &[u32],
+    occurrence: OccurrenceNumber,
+    out: &mut [u8],
+) {
+    io::write_all(STDOUT_FILENO, label);
+    match cover::witness(requirement, run, ConditionCount(2), occurrence, out) {
+        Witnessed::Covered(n) => {
+            io::write_all(STDOUT_FILENO, b": covered ");
+            io::print_decimal(STDOUT_FILENO, n.0 as u64);
+            io::write_all(STDOUT_FILENO, b"\n");
+        }
+        Witnessed::Uncovered => {
+            io::write_all(STDOUT_FILENO, b": uncovered\n");
+        }
+        Witnessed::Refused(r) => say_refused(r),
+    }
+    say_bytes(out);
+}
+
+// Trap tables, with room, with none to spare and with a byte too few.
+fn traps() {
+    let finally = [2u8, 0, 0, 2, 1, 0, 5, 0, 1, 10, 2, 0];
+    let mut roomy = [170u8; 32];
+    say_trap(
+        b"trap of a in finally (a or b)",
+        &finally,
+        OccurrenceNumber(0),
+        &mut roomy,
+    );
+    let mut exact = [170u8; 30];
+    say_trap(
+        b"trap of b in finally (a or b)",
+        &finally,
+        OccurrenceNumber(1),
+        &mut exact,
+    );
+    let mut short = [170u8; 29];
+    say_trap(b"a byte too few", &finally, OccurrenceNumber(0), &mut short);
+    let mut small = [170u8; 8];
+    say_trap(
+        b"no third occurrence",
+        &finally,
+        OccurrenceNumber(2),
+        &mut small,
+    );
+    say_trap(
+        b"a row named twice",
+        b"\x02\x00\x00\x04\x00\x00",
+        OccurrenceNumber(0),
+        &mut small,
+    );
+    say_trap(
+        b"not over or",
+        b"\x02\x00\x00\x02\x01\x00\x05\x00\x01\x03\x02\x00",
+        OccurrenceNumber(0),
+        &mut small,
+    );
+    say_trap(
+        b"a condition alone",
+        b"\x02\x01\x00",
+        OccurrenceNumber(0),
+        &mut small,
+    );
+    say_trap(
+        b"not over a condition",
+        b"\x02\x01\x00\x03\x00\x00",
+        OccurrenceNumber(0),
+        &mut small,
+    );
+}
+
+// Witnesses: covered and not, under not, true at two steps, and short of room.
+fn witnesses() {
+    let finally = [2u8, 0, 0, 2, 1, 0, 5, 0, 1, 10, 2, 0];
+    let mut out = [170u8; 4];
+    say_witness(
+        b"a in finally (a or b) on {} {a} {b}",
+        &finally,
+        &[0u32, 1, 2],
+        OccurrenceNumber(0),
+        &mut out,
+    );
+    say_witness(
+        b"a in finally a on {a} {} {a}",
+        b"\x02\x00\x00\x0a\x00\x00",
+        &[1u32, 0, 1],
+        OccurrenceNumber(0),
+        &mut out,
+    );
+    say_witness(
+        b"a in globally not a on {} {}",
+        b"\x02\x00\x00\x03\x00\x00\x0b\x01\x00",
+        &[0u32, 0],
+        OccurrenceNumber(0),
+        &mut out,
+    );
+    let mut short = [170u8; 2];
+    say_witness(
+        b"covered, a byte too few",
+        &finally,
+        &[0u32, 1, 0],
+        OccurrenceNumber(0),
+        &mut short,
+    );
+    say_witness(
+        b"uncovered, a byte too few",
+        &finally,
+        &[0u32, 1, 2],
+        OccurrenceNumber(0),
+        &mut short,
+    );
+    say_witness(
+        b"no third occurrence",
+        &finally,
+        &[0u32, 1, 2],
+        OccurrenceNumber(2),
+        &mut short,
+    );
+    say_witness(
+        b"bit 2 of 2 conditions",
+        &finally,
+        &[0u32, 1, 4],
+        OccurrenceNumber(2),
+        &mut short,
+    );
+}
+
 fn main() {
     longest();
     refusals();
     kinds();
+    traps();
+    witnesses();
 }
