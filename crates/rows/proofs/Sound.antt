@@ -27,29 +27,19 @@ module _ (conditions r a b : ℕ) where
   fields-lower fields.Unknown t = tt
 
   -- a column that has room for the conditions and for the rows has room for both fields
-  fields-inside :
-      (many : ℕ) → 0 < many → conditions ≤ many → r ≤ many → (f : Fields) → So (fieldsSound f conditions r a b) → (a < many) × (b < many)
-  fields-inside many some c l fields.Neither t =
-      let h = parts (eqb a 0) (eqb b 0) t in
-      let x = eqb-true a 0 (h .0) in
-      let y = eqb-true b 0 (h .1) in
-      (omega arith, omega arith)
-  fields-inside many some c l fields.Condition t =
-      let h = parts (ltb a conditions) (eqb b 0) t in
-      let x = ltb-true a conditions (h .0) in
-      let y = eqb-true b 0 (h .1) in
-      (omega arith, omega arith)
-  fields-inside many some c l fields.OneRow t =
-      let h = parts (ltb a r) (eqb b 0) t in
-      let x = ltb-true a r (h .0) in
-      let y = eqb-true b 0 (h .1) in
-      (omega arith, omega arith)
-  fields-inside many some c l fields.TwoRows t =
-      let h = parts (ltb a r) (ltb b r) t in
-      let x = ltb-true a r (h .0) in
-      let y = ltb-true b r (h .1) in
-      (omega arith, omega arith)
-  fields-inside many some c l fields.Unknown t = absurd (false≢true t)
+  module _ (many : ℕ) (some : 0 < many) (c : conditions ≤ many) (l : r ≤ many) where
+    unused : (n : ℕ) → So (eqb n 0) → n < many
+    unused n t = let e = eqb-true n 0 t in omega arith
+
+    bounded : (n most : ℕ) → most ≤ many → So (ltb n most) → n < many
+    bounded n most h t = let e = ltb-true n most t in omega arith
+
+    fields-inside : (f : Fields) → So (fieldsSound f conditions r a b) → (a < many) × (b < many)
+    fields-inside fields.Neither t = let h = parts (eqb a 0) (eqb b 0) t in (unused a (h .0), unused b (h .1))
+    fields-inside fields.Condition t = let h = parts (ltb a conditions) (eqb b 0) t in (bounded a conditions c (h .0), unused b (h .1))
+    fields-inside fields.OneRow t = let h = parts (ltb a r) (eqb b 0) t in (bounded a r l (h .0), unused b (h .1))
+    fields-inside fields.TwoRows t = let h = parts (ltb a r) (ltb b r) t in (bounded a r l (h .0), bounded b r l (h .1))
+    fields-inside fields.Unknown t = absurd (false≢true t)
 
 -- the rows of a table are sound
 abbrev pub Sound : ℕ → List Row → Type 0

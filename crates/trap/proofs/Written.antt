@@ -6,15 +6,15 @@ use mathlib.Core.List.{List, [], _∷_, _++_}
 use Prim.Native.Nat.{ℕ, suc, _+_, _-_, _≤_}
 use native.Mathlib.Nat.{add-zero}
 use native.Mathlib.Omega.{arith}
-use borrow.Author.Tests.{ne-eqb}
+use borrow.Author.Tests.{eqb-true, leb-true, ne-eqb}
 use borrow.Rule.Slice.PartMut.{putMid}
-use lib.Dec.{eqb}
+use lib.Dec.{leb, eqb}
 use lib.ListN.{length, take, drop, replicate, length-append, length-take, take-append-drop}
 use lib.Seq.{take-at, take-all, drop-drop}
 use Rattle.figures.proofs.Parts.{rest-lent, rest-back}
 use Rattle.rows.specs.Rows.{Kind, Row, row, kind, first, second}
-use Rattle.rows.specs.Rows.Kind.{False, True, Condition, Not, And, Or, Strong-next, Weak-next, Until, Release, Finally, Globally, Weak-until, Unknown}
 use Rattle.rows.specs.Codec.{padded}
+use Rattle.truth.proofs.ByKind.{by-kind}
 use Rattle.trap.specs.declared.Stand.{Stand}
 use Rattle.trap.specs.TrapRows.{Side, added, addedCount, sideOf, trapOf}
 use Rattle.trap.specs.TrapRows.Side.{Left, Right}
@@ -22,42 +22,14 @@ use Rattle.trap.specs.Climbing.{lastAdded, addedBy, stoodUp, addedAfter}
 
 -- how many rows are added does not hang on their numbers
 pub count-added : (k : Kind) (side : Side) (s c o t z : ℕ) → length (added k side s c o t z) ≡ addedCount k side
-count-added False side s c o t z = refl
-count-added True side s c o t z = refl
-count-added Condition side s c o t z = refl
-count-added Not side s c o t z = refl
-count-added And side s c o t z = refl
-count-added Or side s c o t z = refl
-count-added Strong-next side s c o t z = refl
-count-added Weak-next side s c o t z = refl
-count-added Until Left s c o t z = refl
-count-added Until Right s c o t z = refl
-count-added Release Left s c o t z = refl
-count-added Release Right s c o t z = refl
-count-added Finally side s c o t z = refl
-count-added Globally side s c o t z = refl
-count-added Weak-until Left s c o t z = refl
-count-added Weak-until Right s c o t z = refl
-count-added Unknown side s c o t z = refl
+count-added k Left s c o t z =
+    eqb-true _ _ (by-kind (λ k. eqb (length (added k Left s c o t z)) (addedCount k Left)) refl refl k)
+count-added k Right s c o t z =
+    eqb-true _ _ (by-kind (λ k. eqb (length (added k Right s c o t z)) (addedCount k Right)) refl refl k)
 
 pub few-added : (k : Kind) (side : Side) → addedCount k side ≤ 6
-few-added False side = omega arith
-few-added True side = omega arith
-few-added Condition side = omega arith
-few-added Not side = omega arith
-few-added And side = omega arith
-few-added Or side = omega arith
-few-added Strong-next side = omega arith
-few-added Weak-next side = omega arith
-few-added Until Left = omega arith
-few-added Until Right = omega arith
-few-added Release Left = omega arith
-few-added Release Right = omega arith
-few-added Finally side = omega arith
-few-added Globally side = omega arith
-few-added Weak-until Left = omega arith
-few-added Weak-until Right = omega arith
-few-added Unknown side = omega arith
+few-added k Left = leb-true _ _ (by-kind (λ k. leb (addedCount k Left) 6) refl refl k)
+few-added k Right = leb-true _ _ (by-kind (λ k. leb (addedCount k Right) 6) refl refl k)
 
 -- the rows are the front of the array that holds them
 pub front-of : (many : ℕ) (rows : List Row) → length rows ≤ many → take (length rows) (padded many rows) ≡ rows
