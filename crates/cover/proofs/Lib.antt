@@ -7,3 +7,4 @@ pub mod Filled
 pub mod Lent
 pub mod Accepted
 pub mod Given
+pub mod Falsifies

@@ -1,18 +1,20 @@
 -- What the operation `witness` answers and writes: document 01, "Coverage" and "Answers by number".
 -- Assumes nothing.
-use mathlib.Core.Bool.{cond}
+use mathlib.Core.Path.{_≡_}
+use mathlib.Core.Bool.{false, cond}
 use mathlib.Core.List.{List, _++_}
 use mathlib.Core.Option.{Option, none, some}
 use Prim.Native.Nat.{ℕ}
 use lib.Dec.{leb}
-use lib.ListN.{length, drop, replicate}
+use lib.ListN.{length, getD, take, drop, replicate}
 use Rattle.figures.specs.declared.Refusal.the-variants.{ShortOutput}
 use Rattle.figures.specs.Refusals.{Outcome, refusal, _then_}
 use Rattle.figures.specs.Refusals.Outcome.{refused, gives}
 use Rattle.rows.specs.Rows.{Row}
 use Rattle.rows.specs.Codec.{rowsOf}
-use Rattle.rows.specs.Checks.{requirementSized, requirementRows, occurrenceOf}
-use Rattle.truth.specs.Truth.{readsOf}
+use Rattle.rows.specs.Checks.{requirementSized, requirementRows, occurrences, occurrenceOf}
+use Rattle.truth.specs.Truth.{readsOf, flip, verdictOf}
+use Rattle.truth.specs.Column.{sequenceOf}
 use Rattle.truth.specs.Answers.{runChecked}
 use Rattle.cover.specs.declared.Witnessed.{Witnessed}
 use Rattle.cover.specs.declared.Witnessed.the-variants as witness
@@ -54,3 +56,12 @@ abbrev pub lentAfter : Outcome (Option ℕ) → List ℕ → List ℕ → List �
 lentAfter (refused n p) bytes out = out
 lentAfter (gives none) bytes out = out
 lentAfter (gives (some steps)) bytes out = bytes ++ drop steps out
+
+-- "read by that occurrence in place of its condition .. makes it false": what is written, of so many bytes, does
+abbrev pub Falsified : Witnessed → List ℕ → List ℕ → ℕ → List ℕ → Type 0
+Falsified r requirement run occurrence out =
+    (n : ℕ) → witnessSays r ≡ gives (some n) →
+    verdictOf (rowsOf requirement)
+    (flip (getD (occurrences (rowsOf requirement)) occurrence 0) (sequenceOf (take n out)) (readsOf (rowsOf requirement) run))
+    (length run)
+    ≡ false

@@ -12,7 +12,7 @@ ghost use Rattle.rows.specs.Checks.{isNot, occurrences};
 ghost use Rattle.truth.specs.Truth.{readsOf};
 ghost use Rattle.cover.specs.Coverage.{witnessBit, covered};
 ghost use Rattle.cover.specs.Pair.{Pair};
-ghost use Rattle.cover.specs.Answers.{witnessSays, pairSays, rowsWitness, witnessOf, witnessBytes, lentAfter};
+ghost use Rattle.cover.specs.Answers.{witnessSays, pairSays, rowsWitness, witnessOf, witnessBytes, lentAfter, Falsified};
 use figures::ByteCount;
 use figures::Check;
 use figures::ConditionCount;
@@ -135,6 +135,7 @@ pub fn witness(
 ) -> Witnessed
     ensures { λ r. ⌜ witnessSays r ≡ witnessOf (now (requirement .entry)) (now (run .entry)) (conditions .0) (occurrence .0) (length (now (out .entry))) ⌝ }
     ensures { λ _. ⌜ now (out .exit) ≡ lentAfter (witnessOf (now (requirement .entry)) (now (run .entry)) (conditions .0) (occurrence .0) (length (now (out .entry)))) (witnessBytes (rowsOf (now (requirement .entry))) (getD (occurrences (rowsOf (now (requirement .entry)))) (occurrence .0) 0) (length (now (run .entry)))) (now (out .entry)) ⌝ }
+    ensures { λ r. ⌜ Falsified r (now (requirement .entry)) (now (run .entry)) (occurrence .0) (now (out .exit)) ⌝ }
 {
     if let Check::Refused(r) = rows::check_requirement(ByteCount(requirement.len()), conditions) {
         return Witnessed::Refused(r);

@@ -37,6 +37,13 @@ within-means least most n = (
   λ h. and-eq-true-iff (leb least n) (leb n most) .1 (le-leb least n (h .0), le-leb n most (h .1)),
 )
 
+pub over-means : (n most : ℕ) → (So (leb n most) → ⊥) ↔ (most < n)
+over-means n most = (λ h. go h (decLt most n), λ l t. let e = leb-true n most t in omega arith)
+  where
+    go : (So (leb n most) → ⊥) → Dec (most < n) → most < n
+    go h (yes l) = l
+    go h (no l) = absurd (h (le-leb n most (omega arith)))
+
 -- beyond its limits
 abbrev pub Beyond : ℕ → ℕ → ℕ → Type 0
 Beyond least most n = (n < least) ⊎ (most < n)

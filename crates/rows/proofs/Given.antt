@@ -1,24 +1,23 @@
 -- Refusals 8, 9 and 14 of this room are given exactly when document 01 says, and its answers are unique.
 -- Assumes nothing.
 use mathlib.Core.Path.{_≡_, refl}
-use mathlib.Core.Logic.{_↔_, Iff·trans}
-use mathlib.Core.Bool.{_&&_, So}
+use mathlib.Core.Logic.{_↔_, Iff·trans, Iff·and, Iff·rfl}
+use mathlib.Core.Bool.{_&&_}
 use mathlib.Core.List.{List}
 use mathlib.Core.Option.{Option, none, some}
-use Prim.Native.Nat.{ℕ, _*_, _/_, _<_}
+use Prim.Native.Nat.{ℕ, _*_, _/_, _≤_, _<_}
 use native.Mathlib.Omega.{arith}
-use native.Mathlib.Decide.{decLt}
 use borrow.Author.Tests.{leb-true, le-leb}
 use lib.ListN.{length}
 use Rattle.figures.specs.declared.Place.{Place}
 use Rattle.figures.specs.declared.Place.the-variants as place
 use Rattle.figures.specs.declared.Refusal.the-variants.{ShortOutput}
 use Rattle.figures.specs.Refusals.{Outcome, printedPlace}
-use Rattle.figures.specs.Refusals.Outcome.{refused}
+use Rattle.figures.specs.Refusals.Outcome.{refused, gives}
 use Rattle.figures.specs.Limits.{rowBytes}
-use Rattle.figures.proofs.Given.{refused-when}
+use Rattle.figures.proofs.Given.{refused-when, over-means}
 use Rattle.figures.proofs.Lowest.{Lowest}
-use Rattle.figures.proofs.Order.{lowest-refused}
+use Rattle.figures.proofs.Order.{Numbered, test-numbered, test-gives, lowest-refused}
 use Rattle.figures.proofs.Unique.{one-answer, unique, readBack, read-refusal}
 use Rattle.rows.specs.declared.RowFound.{RowFound}
 use Rattle.rows.specs.declared.RowFound.the-variants as row-found
@@ -42,18 +41,25 @@ pub given-9 :
     (requirementChecked rows ≡ refused 9 (atRow r)) ↔ Lowest (λ r. namedOnce rows r && notOverCondition rows r) (length rows) 0 r
 given-9 rows = lowest-refused _ _ _ 9 atRow printedPlace (λ k. refl) (λ k. refl)
 
--- 14 where three bytes a row are more than there is room for
-pub given-14 : (rows : List Row) (room : ℕ) → (encodeOf rows room ≡ refused 14 place.None) ↔ (room < rowBytes * length rows)
-unfolding encodeOf
-given-14 rows room =
-    Iff·trans (refused-when _ ShortOutput (fits rows room)) (
-      λ h. short h (decLt room (rowBytes * length rows)),
-      λ l t. let e = leb-true (length rows) (room / rowBytes) t in omega arith,
-    )
-  where
-    short : (So (fits rows room) → ⊥) → Dec (room < rowBytes * length rows) → room < rowBytes * length rows
-    short h (yes l) = l
-    short h (no l) = absurd (h (le-leb (length rows) (room / rowBytes) (omega arith)))
+-- 14 where three bytes a row are more than there is room for, and else so many are written
+module _ (rows : List Row) (room : ℕ) where
+  pub given-14 : (encodeOf rows room ≡ refused 14 place.None) ↔ (room < rowBytes * length rows)
+  unfolding encodeOf
+  given-14 =
+      Iff·trans (refused-when _ ShortOutput (fits rows room))
+      (Iff·trans (over-means (length rows) (room / rowBytes)) (λ l. omega arith, λ l. omega arith))
+
+  pub given-written : (n : ℕ) → (encodeOf rows room ≡ gives n) ↔ ((rowBytes * length rows ≤ room) × (rowBytes * length rows ≡ n))
+  unfolding encodeOf
+  given-written n =
+      Iff·trans (test-gives _ ShortOutput (fits rows room) n)
+      (Iff·and
+      (λ t. let e = leb-true (length rows) (room / rowBytes) t in omega arith, λ l. le-leb (length rows) (room / rowBytes) (omega arith))
+      Iff·rfl)
+
+  pub encode-numbered : Numbered (encodeOf rows room) 14
+  unfolding encodeOf
+  encode-numbered = test-numbered _ ShortOutput (fits rows room)
 
 -- a search's answer, and a write's, are determined by what they say
 found-row : Option ℕ → RowFound

@@ -6,3 +6,4 @@ pub mod Sized
 pub mod Given
 pub mod RoundTrip
 pub mod Occurring
+pub mod Taken

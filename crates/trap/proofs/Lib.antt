@@ -8,3 +8,4 @@ pub mod Climb
 pub mod Written
 pub mod Upward
 pub mod Output
+pub mod Given

@@ -19,6 +19,7 @@ use Rattle.rows.specs.Checks.{requirementSized, occurrences}
 use Rattle.rows.proofs.Bytes.{decoded, length-padded}
 use Rattle.rows.proofs.Sized.{requirement-sized}
 use Rattle.cover.specs.Answers.{rowsWitness, witnessOf, witnessBytes}
+use Rattle.cover.proofs.Falsifies.{falsified}
 use Rattle.cover.proofs.Lent.{Answered, along, answered}
 use Rattle.cover.proofs.witness.Statement.{statement}
 use Rattle.cover.proofs.witness.Tie as tie
@@ -72,7 +73,8 @@ returns : tie.Need-returns
 returns c =
     let a = c .before .before .before .before .before .before .before .args in
     let refused = said checkSays (λ o. o) (c .before .before .before .check-requirement .ensures) (c .before .r .given .1) in
-    answered _ _ (by-size (a .requirement .now) (a .run .now) (a .conditions .0) (a .occurrence .0) (a .out .now) refused) refl
+    falsified (a .requirement .now) (a .run .now) (a .conditions .0) (a .occurrence .0) (a .out .now)
+    (answered _ _ (by-size (a .requirement .now) (a .run .now) (a .conditions .0) (a .occurrence .0) (a .out .now) refused) refl)
 
 enum-told : tie.Need-enum-told
 enum-told c = search needs
@@ -111,9 +113,10 @@ returns-2 c =
     let at = c .before .before .before .before .before .before in
     let a = at .before .before .before .before .before .before .args in
     let passed = said checkSays (λ o. o) (at .before .before .check-requirement .ensures) (at .enum-told .given .1) in
-    by-rows (a .requirement .now) (a .run .now) (a .conditions .0) (a .occurrence .0) (a .out .now) passed
+    falsified (a .requirement .now) (a .run .now) (a .conditions .0) (a .occurrence .0) (a .out .now)
+    (by-rows (a .requirement .now) (a .run .now) (a .conditions .0) (a .occurrence .0) (a .out .now) passed
     (front (a .requirement .now) (a .conditions .0) passed (c .before .before .before .before .before .decode .ensures))
-    (c .before .before .witness-of-rows .ensures)
+    (c .before .before .witness-of-rows .ensures))
 
 pub witness-spec : {M : Type 1} → statement M
 witness-spec =
