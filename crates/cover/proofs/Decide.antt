@@ -10,8 +10,7 @@ use lib.Dec.{eqb}
 use lib.ListN.{length, replicate, getD-replicate}
 use Rattle.rows.specs.Rows.{Row, rowAt}
 use Rattle.rows.specs.Checks.{isCondition, IsRequirement}
-use Rattle.truth.specs.Truth.{Reading, verdictOf}
-use Rattle.truth.specs.Column.{sequenceOf}
+use Rattle.truth.specs.Truth.{Reading, verdictOf, sequenceOf}
 use Rattle.cover.specs.Coverage.{flip, witnessBit, Covered, someSequence, covered}
 use Rattle.cover.specs.Answers.{witnessBytes}
 use Rattle.cover.proofs.Theorems.{same-read, covered-iff}

@@ -14,8 +14,7 @@ use Rattle.rows.specs.Codec.{rowsOf}
 use Rattle.rows.specs.Checks.{conditionAt, occurrences}
 use Rattle.rows.proofs.Occurring.{occurrence-there, occurrence-condition}
 use Rattle.rows.proofs.Sound.{requirement as is-requirement}
-use Rattle.truth.specs.Truth.{readsOf, verdictOf}
-use Rattle.truth.specs.Column.{sequenceOf}
+use Rattle.truth.specs.Truth.{readsOf, verdictOf, sequenceOf}
 use Rattle.cover.specs.Coverage.{flip, witnessBit}
 use Rattle.cover.specs.Answers.{witnessOf, witnessBytes, lentAfter}
 use Rattle.cover.proofs.Decide.{covered-means}

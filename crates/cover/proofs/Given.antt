@@ -2,7 +2,7 @@
 -- Assumes nothing.
 use mathlib.Core.Path.{_≡_, refl, sym, _∙_, ap}
 use mathlib.Core.Logic.{_↔_, Iff·trans, Iff·and, Iff·rfl, Iff·not}
-use mathlib.Core.Bool.{Bool, true, false, cond, _&&_, So, false≢true}
+use mathlib.Core.Bool.{Bool, true, false, cond, So, false≢true}
 use mathlib.Core.List.{List}
 use mathlib.Core.Option.{Option, none, some}
 use Prim.Native.Nat.{ℕ, _≤_, _<_}
@@ -16,22 +16,19 @@ use Rattle.figures.specs.declared.Refusal.the-variants.{StrayBit, ShortOutput}
 use Rattle.figures.specs.declared.StepPlace.the-variants as step-place
 use Rattle.figures.specs.Refusals.{Outcome, printedPlace, _then_}
 use Rattle.figures.specs.Refusals.Outcome.{refused, gives}
-use Rattle.figures.specs.Limits.{mostConditions, mostRequirementRows, mostSteps}
+use Rattle.figures.specs.Limits.{mostSteps}
 use Rattle.figures.specs.Numbers.{refusedAt}
-use Rattle.figures.proofs.Given.{not-both, Beyond, WrongLength, refused-when, over-means, given-10 as run-refused}
+use Rattle.figures.proofs.Given.{not-both, Beyond, refused-when, over-means, given-10 as run-refused}
 use Rattle.figures.proofs.Lowest.{Holds, Lowest}
 use Rattle.figures.proofs.Order.{Passes, Numbered, Never, instead, numbered-never, never-by, never-then, skip, skip-by, skip-never, stop, stop-by, passes, passes-by, both-pass, then-assoc, test-numbered, test-gives, lowest-numbered, lowest-passes, lowest-refused}
 use Rattle.figures.proofs.Passed.{Within, run-numbered, run-passes}
 use Rattle.figures.proofs.Unique.{unique, readBack, read-refusal}
 use Rattle.rows.specs.Rows.{Row, rowAt}
 use Rattle.rows.specs.Codec.{rowsOf}
-use Rattle.rows.specs.Checks.{isCondition, IsRequirement, rowSound, namedOnce, notOverCondition, requirementSized, requirementRows, occurrences, occurrenceOf}
-use Rattle.rows.proofs.Given.{atRow}
+use Rattle.rows.specs.Checks.{isCondition, IsRequirement, requirementSized, requirementRows, occurrences, occurrenceOf}
 use Rattle.rows.proofs.Occurring.{occurrence-numbered, occurrence-gives, given-12 as no-occurrence}
-use Rattle.rows.proofs.Sound.{Sound}
-use Rattle.rows.proofs.Taken.{taken, RequirementSized, Taken, taken-passes, never-taken, given-3 as taken-3, given-7 as taken-7, given-8 as taken-8, given-9 as taken-9}
-use Rattle.truth.specs.Truth.{Reading, readsOf, verdictOf, wordSound, lowestStray}
-use Rattle.truth.specs.Column.{sequenceOf}
+use Rattle.rows.proofs.Taken.{taken, Taken, taken-passes, never-taken}
+use Rattle.truth.specs.Truth.{Reading, readsOf, verdictOf, wordSound, lowestStray, sequenceOf}
 use Rattle.truth.specs.Answers.{runChecked}
 use Rattle.truth.proofs.Bools.{right}
 use Rattle.cover.specs.declared.Witnessed.{Witnessed}
@@ -149,29 +146,11 @@ module _ (requirement run : List ℕ) (conditions occurrence room : ℕ) where
   never-after-run n l =
       never-by _ n _ (numbered-never n _ (occurrence-numbered rows occurrence) (λ e. omega arith)) (λ p. never-pair rows run room p n (omega arith))
 
-  -- 3, 7, 8 and 9 are the requirement's alone
-  by-requirement : (n : ℕ) (p : Place) → n < 10 → (answer ≡ refused n p) ↔ (taken conditions requirement ≡ refused n p)
+  -- 3, 7, 8 and 9 are the requirement's alone, given exactly when `rows` says of them
+  pub by-requirement : (n : ℕ) (p : Place) → n < 10 → (answer ≡ refused n p) ↔ (taken conditions requirement ≡ refused n p)
   by-requirement n p l =
       Iff·trans along
       (stop _ n _ p (never-by _ n _ (never-run n (λ e. omega arith) (λ e. omega arith)) (λ _. never-after-run n (omega arith))))
-
-  pub given-3 : (answer ≡ refused 3 place.None) ↔ Beyond 1 mostConditions conditions
-  given-3 = Iff·trans (by-requirement 3 _ (omega arith)) (taken-3 conditions requirement)
-
-  pub given-7 : (answer ≡ refused 7 place.None) ↔ (Within 1 mostConditions conditions × WrongLength mostRequirementRows (length requirement))
-  given-7 = Iff·trans (by-requirement 7 _ (omega arith)) (taken-7 conditions requirement)
-
-  pub given-8 :
-      (r : ℕ) →
-      (answer ≡ refused 8 (atRow r))
-      ↔ (RequirementSized conditions requirement × Lowest (λ r. rowSound conditions r (rowAt rows r)) (length rows) 0 r)
-  given-8 r = Iff·trans (by-requirement 8 _ (omega arith)) (taken-8 conditions requirement r)
-
-  pub given-9 :
-      (r : ℕ) →
-      (answer ≡ refused 9 (atRow r))
-      ↔ (RequirementSized conditions requirement × (Sound conditions rows × Lowest (λ r. namedOnce rows r && notOverCondition rows r) (length rows) 0 r))
-  given-9 r = Iff·trans (by-requirement 9 _ (omega arith)) (taken-9 conditions requirement r)
 
   -- past them the run is checked
   past-taken : (n : ℕ) (p : Place) → 9 < n → (answer ≡ refused n p) ↔ (Taken conditions requirement × (after ≡ refused n p))

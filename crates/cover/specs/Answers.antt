@@ -13,8 +13,7 @@ use Rattle.figures.specs.Refusals.Outcome.{refused, gives}
 use Rattle.rows.specs.Rows.{Row}
 use Rattle.rows.specs.Codec.{rowsOf}
 use Rattle.rows.specs.Checks.{requirementSized, requirementRows, occurrences, occurrenceOf}
-use Rattle.truth.specs.Truth.{readsOf, flip, verdictOf}
-use Rattle.truth.specs.Column.{sequenceOf}
+use Rattle.truth.specs.Truth.{readsOf, flip, verdictOf, sequenceOf}
 use Rattle.truth.specs.Answers.{runChecked}
 use Rattle.cover.specs.declared.Witnessed.{Witnessed}
 use Rattle.cover.specs.declared.Witnessed.the-variants as witness

@@ -2,7 +2,7 @@
 -- Assumes nothing.
 use mathlib.Core.Path.{_≡_, refl, sym, _∙_}
 use mathlib.Core.Logic.{_↔_, Iff·trans, Iff·and, Iff·rfl}
-use mathlib.Core.Bool.{Bool, cond, _&&_}
+use mathlib.Core.Bool.{Bool, cond}
 use mathlib.Core.List.{List}
 use Prim.Native.Nat.{ℕ, _*_, _≤_, _<_}
 use native.Mathlib.Omega.{arith}
@@ -14,19 +14,16 @@ use Rattle.figures.specs.declared.Place.the-variants as place
 use Rattle.figures.specs.declared.Refusal.the-variants.{TrapRows}
 use Rattle.figures.specs.Refusals.{Outcome, refusal, _then_}
 use Rattle.figures.specs.Refusals.Outcome.{refused, gives}
-use Rattle.figures.specs.Limits.{rowBytes, mostConditions, mostRequirementRows, mostTableRows}
-use Rattle.figures.proofs.Given.{Beyond, WrongLength, refused-when, over-means}
-use Rattle.figures.proofs.Lowest.{Lowest}
+use Rattle.figures.specs.Limits.{rowBytes, mostTableRows}
+use Rattle.figures.proofs.Given.{refused-when, over-means}
 use Rattle.figures.proofs.Order.{Passes, Numbered, Never, instead, numbered-never, never-by, never-then, skip, skip-by, skip-never, stop, stop-by, passes, passes-by, test-numbered, test-passes, test-then, then-assoc}
-use Rattle.figures.proofs.Passed.{Within}
 use Rattle.figures.proofs.Unique.{unique, readBack, read-refusal}
-use Rattle.rows.specs.Rows.{Row, rowAt}
+use Rattle.rows.specs.Rows.{Row}
 use Rattle.rows.specs.Codec.{rowsOf, encodeOf}
-use Rattle.rows.specs.Checks.{rowSound, namedOnce, notOverCondition, requirementSized, requirementRows, occurrences, occurrenceOf}
-use Rattle.rows.proofs.Given.{atRow, encode-numbered, given-14 as encode-refused, given-written as encode-gives}
+use Rattle.rows.specs.Checks.{requirementSized, requirementRows, occurrences, occurrenceOf}
+use Rattle.rows.proofs.Given.{encode-numbered, given-14 as encode-refused, given-written as encode-gives}
 use Rattle.rows.proofs.Occurring.{occurrence-numbered, occurrence-gives, given-12 as no-occurrence}
-use Rattle.rows.proofs.Sound.{Sound}
-use Rattle.rows.proofs.Taken.{taken, RequirementSized, Taken, taken-passes, never-taken, given-3 as taken-3, given-7 as taken-7, given-8 as taken-8, given-9 as taken-9}
+use Rattle.rows.proofs.Taken.{taken, Taken, taken-passes, never-taken}
 use Rattle.trap.specs.declared.Trapped.{Trapped}
 use Rattle.trap.specs.declared.Trapped.the-variants as trapped
 use Rattle.trap.specs.TrapRows.{trapTable}
@@ -107,30 +104,12 @@ module _ (requirement : List ℕ) (conditions occurrence room : ℕ) where
   unfolding trapOf
   along = instead (sym (then-assoc (requirementSized conditions (length requirement)) (requirementRows conditions rows) after))
 
-  -- 3, 7, 8 and 9 are the requirement's alone
-  by-requirement : (n : ℕ) (p : Place) → n < 12 → (answer ≡ refused n p) ↔ (taken conditions requirement ≡ refused n p)
+  -- 3, 7, 8 and 9 are the requirement's alone, given exactly when `rows` says of them
+  pub by-requirement : (n : ℕ) (p : Place) → n < 12 → (answer ≡ refused n p) ↔ (taken conditions requirement ≡ refused n p)
   by-requirement n p l =
       Iff·trans along
       (stop _ n _ p
       (never-by _ n _ (numbered-never n _ (occurrence-numbered rows occurrence) (λ e. omega arith)) (λ q. never-for rows room q n (omega arith))))
-
-  pub given-3 : (answer ≡ refused 3 place.None) ↔ Beyond 1 mostConditions conditions
-  given-3 = Iff·trans (by-requirement 3 _ (omega arith)) (taken-3 conditions requirement)
-
-  pub given-7 : (answer ≡ refused 7 place.None) ↔ (Within 1 mostConditions conditions × WrongLength mostRequirementRows (length requirement))
-  given-7 = Iff·trans (by-requirement 7 _ (omega arith)) (taken-7 conditions requirement)
-
-  pub given-8 :
-      (r : ℕ) →
-      (answer ≡ refused 8 (atRow r))
-      ↔ (RequirementSized conditions requirement × Lowest (λ r. rowSound conditions r (rowAt rows r)) (length rows) 0 r)
-  given-8 r = Iff·trans (by-requirement 8 _ (omega arith)) (taken-8 conditions requirement r)
-
-  pub given-9 :
-      (r : ℕ) →
-      (answer ≡ refused 9 (atRow r))
-      ↔ (RequirementSized conditions requirement × (Sound conditions rows × Lowest (λ r. namedOnce rows r && notOverCondition rows r) (length rows) 0 r))
-  given-9 r = Iff·trans (by-requirement 9 _ (omega arith)) (taken-9 conditions requirement r)
 
   -- past them the occurrence is asked for
   past-taken : (n : ℕ) (p : Place) → 9 < n → (answer ≡ refused n p) ↔ (Taken conditions requirement × (after ≡ refused n p))

@@ -16,8 +16,8 @@ use Rattle.rows.specs.Checks.{All}
 use Rattle.truth.specs.declared.Flip.{Flip}
 use Rattle.truth.specs.declared.Flip.the-variants as flips
 use Rattle.truth.specs.Signals.{Signal}
-use Rattle.truth.specs.Truth.{Reading, ownOf, readsOf, truthOf}
-use Rattle.truth.specs.Column.{cell, cellOf, Cells, Fit, ownBy, readsAt, readingOf, sequenceOf}
+use Rattle.truth.specs.Truth.{Reading, ownOf, readsOf, truthOf, sequenceOf}
+use Rattle.truth.specs.Column.{cell, cellOf, Cells, Fit, ownBy, readsAt, readingOf}
 use Rattle.truth.proofs.Model.{All-map, lower-induction, truth-model}
 use Rattle.truth.proofs.Cells.{row-cell, cell-cong, cell-last}
 

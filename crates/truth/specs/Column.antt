@@ -14,8 +14,7 @@ use Rattle.truth.specs.declared.Flip.{Flip}
 use Rattle.truth.specs.declared.Flip.the-variants as flips
 use Rattle.truth.specs.declared.Reads.{Reads}
 use Rattle.truth.specs.declared.Reads.the-variants as reads
-use Rattle.truth.specs.Signals.{Signal}
-use Rattle.truth.specs.Truth.{Reading, bit, readsOf, flip}
+use Rattle.truth.specs.Truth.{sequenceOf, Reading, bit, readsOf, flip}
 
 -- own: what a condition reads; a, b: the children now; a-next, next: the first child and the row itself at the next step; last: there is none
 abbrev pub cell : Kind → Bool → Bool → Bool → Bool → Bool → Bool → Bool
@@ -58,10 +57,6 @@ readOf (reads.Flipped word p value) condition r = cond (eqb r (p .0)) value (bit
 
 abbrev pub ownBy : List Row → Reads → ℕ → Bool
 ownBy rows what r = readOf what (first (rowAt rows r)) r
-
--- a lent sequence, a byte a step: not 0 for true
-abbrev pub sequenceOf : List ℕ → Signal
-sequenceOf sequence i = not (eqb (getD sequence i 0) 0)
 
 abbrev pub readsAt : ℕ → Flip → List ℕ → ℕ → Reads
 readsAt word flips.Nowhere sequence i = reads.Word word

@@ -60,6 +60,10 @@ readsOf rows run r i = ownOf rows (getD run i 0) r
 abbrev pub flip : ℕ → Signal → Reading → Reading
 flip p u reads r = cond (eqb r p) u (reads r)
 
+-- "one byte a step": a sequence of truth values as bytes, not 0 for true
+abbrev pub sequenceOf : List ℕ → Signal
+sequenceOf sequence i = not (eqb (getD sequence i 0) 0)
+
 -- "The formula is the last row", "The verdict is the truth at step 0"
 abbrev pub verdictOf : List Row → Reading → ℕ → Bool
 verdictOf rows reads n = truthOf rows reads n (length rows - 1) 0

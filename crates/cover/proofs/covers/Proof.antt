@@ -9,8 +9,7 @@ use borrow.Author.Tests.{not-true, not-false}
 use lib.ListN.{length, replicate, length-replicate}
 use Rattle.figures.specs.Limits.{mostSteps}
 use Rattle.rows.specs.Rows.{Row}
-use Rattle.truth.specs.Truth.{readsOf, flip, verdictOf, holds}
-use Rattle.truth.specs.Column.{sequenceOf}
+use Rattle.truth.specs.Truth.{readsOf, flip, verdictOf, holds, sequenceOf}
 use Rattle.cover.specs.Coverage.{covered}
 use Rattle.cover.specs.Pair.{Pair}
 use Rattle.cover.specs.Answers.{witnessBytes}
