@@ -73,7 +73,7 @@ fn fill(out: &mut [u8], steps: StepCount, value: u8)
 }
 
 // Whether a run covers the occurrence at row p: where any sequence makes the requirement false the witness does, so no other is tried.
-fn covers(rows: &[[u16; 3]], run: &[u32], p: RowNumber) -> bool
+pub fn covers(rows: &[[u16; 3]], run: &[u32], p: RowNumber) -> bool
     requires { ⌜ Pair (now rows) (now run) (p .0) ⌝ }
     ensures { λ b. ⌜ b ≡ covered (now (rows .entry)) (readsOf (now (rows .entry)) (now (run .entry))) (length (now (run .entry))) (p .0) ⌝ }
 {

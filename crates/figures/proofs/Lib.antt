@@ -8,3 +8,4 @@ pub mod Given
 pub mod Order
 pub mod Passed
 pub mod Ascending
+pub mod Padded

@@ -3,7 +3,8 @@
 use mathlib.Core.Bool.{Bool, cond}
 use mathlib.Core.List.{List, [], _∷_, _++_}
 use mathlib.Core.Option.{Option, none, some}
-use Prim.Native.Nat.{ℕ, zero, suc}
+use Prim.Native.Nat.{ℕ, zero, suc, _-_}
+use lib.ListN.{length, take, replicate}
 use Rattle.figures.specs.declared.Refusal.{Refusal}
 use Rattle.figures.specs.Refusals.{Outcome, refusal}
 use Rattle.figures.specs.Refusals.Outcome.{gives}
@@ -12,6 +13,10 @@ use Rattle.figures.specs.Refusals.Outcome.{gives}
 unfoldable pub tabulate : {A : Type 0} → ℕ → (ℕ → A) → List A
 tabulate zero f = []
 tabulate (suc m) f = tabulate m f ++ (f m ∷ [])
+
+-- an array of so many things that starts with these, the rest d
+abbrev pub paddedBy : {A : Type 0} → A → ℕ → List A → List A
+paddedBy d many xs = take many xs ++ replicate (many - length xs) d
 
 -- the numbers below m at which f holds, ascending
 unfoldable pub below : ℕ → (ℕ → Bool) → List ℕ

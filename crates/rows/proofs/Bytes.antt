@@ -2,18 +2,17 @@
 -- Assumes nothing.
 use mathlib.Core.Path.{_≡_, refl, sym, _∙_, ap, ap₂, subst⁻¹}
 use mathlib.Core.List.{List, [], _∷_, _++_, append-assoc}
-use Prim.Native.Nat.{ℕ, suc, _+_, _-_, _*_, _/_, _≤_, _<_, min}
+use Prim.Native.Nat.{ℕ, _+_, _-_, _*_, _/_, _≤_, _<_}
 use native.Mathlib.Omega.{arith}
 use native.Mathlib.Numerals.{add-one}
 use native.Mathlib.Nat.{add-zero}
-use native.Mathlib.Decide.{decLt}
 use borrow.Rule.Slice.PartMut.{putMid}
-use lib.ListN.{length, getD, take, drop, set, replicate, length-append, length-drop, length-take, length-replicate}
-use lib.Seq.{take-suc, take-all, take-at, drop-at, drop-drop, getD-drop, set-at}
+use lib.ListN.{length, getD, take, drop, set, length-append, length-drop, length-take}
+use lib.Seq.{take-suc, take-at, drop-at, drop-drop, getD-drop}
 use Rattle.figures.proofs.Parts.{rest-lent, rest-back}
 use Rattle.figures.specs.Limits.{rowBytes}
-use Rattle.figures.specs.Numbers.{tabulate}
-use Rattle.figures.proofs.Tabulated.{length-tabulate, take-tabulate}
+use Rattle.figures.proofs.Tabulated.{length-tabulate}
+use Rattle.figures.proofs.Padded.{filled, length-filled}
 use Rattle.rows.specs.Rows.{Row, row, rowAt}
 use Rattle.rows.specs.Codec.{rowOf, rowsOf, padded, bytesOfRow, bytesOf}
 
@@ -41,33 +40,6 @@ length-bytesOf (r ∷ rows) = let h = length-bytesOf rows in omega arith
 -- a row read from the place where it starts
 pub row-there : (bytes : List ℕ) (r : ℕ) → rowOf (drop (rowBytes * r) bytes) 0 ≡ rowOf bytes r
 row-there bytes r = simp (getD-drop, add-zero)
-
--- the array of rows, as far as it is filled
-module _ (many : ℕ) (f : ℕ → Row) where
-  padded-is : (m : ℕ) → m ≤ many → padded many (tabulate m f) ≡ tabulate m f ++ replicate (many - m) (row 0 0 0)
-  padded-is m l =
-      ap₂ (λ (x : List Row) (k : ℕ). x ++ replicate (many - k) (row 0 0 0))
-      (take-all many (tabulate m f) (omega (arith, length-tabulate f m))) (length-tabulate f m)
-
-  pub padded-more : (m : ℕ) → m < many → set (padded many (tabulate m f)) m (f m) ≡ padded many (tabulate (m + 1) f)
-  unfolding tabulate
-  padded-more m l =
-      let left : many - m ≡ suc (many - suc m) = omega arith in
-      rw (add-one, padded-is m (omega arith), padded-is (suc m) l, left)
-      (set-at (tabulate m f) (row 0 0 0) (replicate (many - suc m) (row 0 0 0)) (f m) m (length-tabulate f m)
-      ∙ sym (append-assoc (tabulate m f) (f m ∷ []) (replicate (many - suc m) (row 0 0 0))))
-
-  -- rows past the array's end are left out
-  pub padded-front : (m k : ℕ) → k ≡ min m many → padded many (tabulate k f) ≡ padded many (tabulate m f)
-  padded-front m k e = go (decLt many m)
-    where
-      go : Dec (many < m) → padded many (tabulate k f) ≡ padded many (tabulate m f)
-      go (yes l) =
-          let q : k ≡ many = omega arith in
-          let z : many - many ≡ many - m = omega arith in
-          rw (q, length-tabulate f many, length-tabulate f m, z, take-tabulate f many many (omega arith))
-          (rw (take-tabulate f m many (omega arith)))
-      go (no l) = let q : k ≡ m = omega arith in rw q
 
 -- lent bytes after the first r rows were written
 abbrev pub written : List Row → List ℕ → ℕ → List ℕ
@@ -115,16 +87,10 @@ module _ (rows : List Row) (before : List ℕ) (fits : 3 * length rows ≤ lengt
 -- a table that the array holds is its front
 module _ (table : List ℕ) (many : ℕ) (l : length table / rowBytes ≤ many) where
   pub decoded : take (length table / rowBytes) (padded many (rowsOf table)) ≡ rowsOf table
-  decoded =
-      ap (take (length table / rowBytes)) (padded-is many (rowOf table) (length table / rowBytes) l)
-      ∙ take-at (rowsOf table) _ (length table / rowBytes) (length-tabulate (rowOf table) (length table / rowBytes))
+  decoded = filled (row 0 0 0) many (rowOf table) (length table / rowBytes) l
 
   pub length-padded : length (padded many (rowsOf table)) ≡ many
-  length-padded =
-      ap length (padded-is many (rowOf table) (length table / rowBytes) l)
-      ∙ length-append (rowsOf table) _
-      ∙ omega
-      (arith, length-tabulate (rowOf table) (length table / rowBytes), length-replicate (many - length table / rowBytes) (row 0 0 0))
+  length-padded = length-filled (row 0 0 0) many (rowOf table) (length table / rowBytes) l
 
 pub length-rowsOf : (table : List ℕ) → length (rowsOf table) ≡ length table / rowBytes
 length-rowsOf table = length-tabulate (rowOf table) (length table / rowBytes)

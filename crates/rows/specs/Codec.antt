@@ -2,14 +2,14 @@
 -- Assumes nothing.
 use mathlib.Core.List.{List, [], _∷_, _++_}
 use mathlib.Core.Bool.{Bool, cond}
-use Prim.Native.Nat.{ℕ, _+_, _-_, _*_, _/_, _%_}
+use Prim.Native.Nat.{ℕ, _+_, _*_, _/_, _%_}
 use lib.Dec.{leb}
-use lib.ListN.{length, getD, take, drop, replicate}
+use lib.ListN.{length, getD, drop}
 use Rattle.figures.specs.declared.Refusal.the-variants.{ShortOutput}
 use Rattle.figures.specs.Refusals.{Outcome, refusal}
 use Rattle.figures.specs.Refusals.Outcome.{gives}
 use Rattle.figures.specs.Limits.{rowBytes}
-use Rattle.figures.specs.Numbers.{tabulate}
+use Rattle.figures.specs.Numbers.{tabulate, paddedBy}
 use Rattle.rows.specs.declared.Encoded.{Encoded}
 use Rattle.rows.specs.declared.Encoded.the-variants as answer
 use Rattle.rows.specs.Rows.{Row, row}
@@ -24,7 +24,7 @@ rowsOf bytes = tabulate (length bytes / rowBytes) (rowOf bytes)
 
 -- an array of so many rows that starts with these, the rest row 0 0 0
 abbrev pub padded : ℕ → List Row → List Row
-padded many rows = take many rows ++ replicate (many - length rows) (row 0 0 0)
+padded = paddedBy (row 0 0 0)
 
 -- the bytes of a row, and of rows
 abbrev pub bytesOfRow : Row → List ℕ

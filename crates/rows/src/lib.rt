@@ -134,7 +134,7 @@ fn namings(rows: &[[u16; 3]], k: RowNumber) -> usize
 }
 
 // Whether row r is a condition; past the last row nothing is.
-fn is_condition(rows: &[[u16; 3]], r: RowNumber) -> bool
+pub fn is_condition(rows: &[[u16; 3]], r: RowNumber) -> bool
     ensures { λ b. ⌜ b ≡ isCondition (rowAt (now (rows .entry)) (r .0)) ⌝ }
 {
     let at = r.0;

@@ -9,7 +9,9 @@ use Rattle.figures.specs.Limits.{rowBytes, mostTableRows}
 use Rattle.figures.specs.Numbers.{tabulate}
 use Rattle.figures.proofs.Parts.{rest-lent}
 use Rattle.rows.specs.Codec.{rowOf, padded}
-use Rattle.rows.proofs.Bytes.{row-there, padded-more, padded-front}
+use Rattle.figures.proofs.Padded.{padded-more, padded-front}
+use Rattle.rows.specs.Rows.{row}
+use Rattle.rows.proofs.Bytes.{row-there}
 use Rattle.rows.proofs.decode.Statement.{statement}
 use Rattle.rows.proofs.decode.Tie as tie
 
@@ -62,14 +64,14 @@ loop-again c =
     let bytes = c .before .before .before .before .before .before .args .bytes .now in
     let there = c .row-of .ensures ∙ ap (λ l. rowOf l 0) (rest-lent (rowBytes * q .r) bytes) ∙ row-there bytes (q .r) in (
       omega arith,
-      ap₂ (λ rows v. set rows (q .r) v) (q .inv .1) there ∙ padded-more mostTableRows (rowOf bytes) (q .r) (omega (arith, c .before .before .before .before .least .ensures)),
+      ap₂ (λ rows v. set rows (q .r) v) (q .inv .1) there ∙ padded-more (row 0 0 0) mostTableRows (rowOf bytes) (q .r) (omega (arith, c .before .before .before .before .least .ensures)),
     )
 
 returns : tie.Need-returns Inv-loop μ-loop
 returns c =
     let q = c .before .loop in
     let bytes = c .before .before .before .before .args .bytes .now in
-    q .inv .1 ∙ padded-front mostTableRows (rowOf bytes) (length bytes / rowBytes) (q .r) (omega (arith, c .before .before .least .ensures))
+    q .inv .1 ∙ padded-front (row 0 0 0) mostTableRows (rowOf bytes) (length bytes / rowBytes) (q .r) (omega (arith, c .before .before .least .ensures))
 
 pub decode-spec : {M : Type 1} → statement M
 decode-spec =

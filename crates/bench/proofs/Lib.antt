@@ -1,0 +1,5 @@
+pub mod Alike
+pub mod Sizes
+pub mod Pairwise
+pub mod Exactly
+pub mod Same

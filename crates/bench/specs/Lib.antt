@@ -1,0 +1,4 @@
+pub mod Coverage
+pub mod Sheet
+pub mod Tables
+pub mod Files

@@ -1,0 +1,45 @@
+-- The engine's tables: truth values by row and column, in one array. Nobody needs to believe this page.
+-- Assumes nothing.
+use mathlib.Core.Path.{_≡_}
+use mathlib.Core.Bool.{Bool, false, _&&_}
+use mathlib.Core.List.{List}
+use Prim.Native.Nat.{ℕ, _+_, _*_, _<_}
+use lib.ListN.{length, getD}
+use Rattle.figures.specs.Limits.{mostRuns, mostRequirementRows}
+use Rattle.rows.specs.Rows.{Row}
+use Rattle.rows.specs.Checks.{conditionAt}
+use Rattle.truth.specs.Signals.{some}
+use Rattle.truth.specs.Truth.{readsOf}
+use Rattle.cover.specs.Coverage.{covered}
+
+-- the value in a row and column of a table of such a width
+abbrev pub cellOf : ℕ → List Bool → ℕ → ℕ → Bool
+cellOf width table r c = getD table (width * r + c) false
+
+-- of one requirement: whether the pair of row p and run j is marked
+abbrev pub marked : List Bool → ℕ → ℕ → Bool
+marked = cellOf mostRuns
+
+-- of a suite: whether row p of requirement q is noted as an occurrence that mattered
+abbrev pub noted : List Bool → ℕ → ℕ → Bool
+noted = cellOf mostRequirementRows
+
+-- the mark of row p for a run: an occurrence in a covered pair
+abbrev pub markOf : List Row → List ℕ → ℕ → Bool
+markOf rows run p = conditionAt rows p && covered rows (readsOf rows run) (length run) p
+
+-- the marks of the runs below m are right
+abbrev pub Marked : List Row → (ℕ → List ℕ) → ℕ → List Bool → Type 0
+Marked rows words m marks = (p j : ℕ) → p < length rows → j < m → marked marks p j ≡ markOf rows (words j) p
+
+-- the marks of run j are set, and no others changed
+pub record ColumnMarked (rows : List Row) (run : List ℕ) (j : ℕ) (before after : List Bool) : Type 0 where
+  pub same-length : length after ≡ length before
+  pub here : (p : ℕ) → p < length rows → marked after p j ≡ markOf rows run p
+  pub others : (p i : ℕ) → i < mostRuns → (i ≡ j → ⊥) → marked after p i ≡ marked before p i
+
+-- the notes of requirement q say of each row below m whether one of its marks is set, and no others changed
+pub record RowNoted (marks : List Bool) (runs q m : ℕ) (before after : List Bool) : Type 0 where
+  pub same-length : length after ≡ length before
+  pub here : (p : ℕ) → p < m → noted after q p ≡ some runs 0 (marked marks p)
+  pub others : (r p : ℕ) → p < mostRequirementRows → (r ≡ q → ⊥) → noted after r p ≡ noted before r p

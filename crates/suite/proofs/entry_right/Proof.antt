@@ -1,0 +1,21 @@
+-- `suite::entry_right` meets its contract: it tests what the entry's two fields say.
+-- Assumes nothing.
+use borrow.Author.Needs.{needs}
+use Rattle.suite.proofs.entry_right.Statement.{statement}
+use Rattle.suite.proofs.entry_right.Tie as tie
+
+count-of-requires : tie.Need-count-of-requires
+count-of-requires c κs = search needs
+
+start-of-requires : tie.Need-start-of-requires
+start-of-requires c κs = search needs
+
+most-of-requires : tie.Need-most-of-requires
+most-of-requires c κs = search needs
+
+returns : tie.Need-returns
+returns c = cc
+
+pub entry-right-spec : {M : Type 1} → statement M
+entry-right-spec =
+    tie.close (tie.spec count-of-requires start-of-requires most-of-requires returns)
