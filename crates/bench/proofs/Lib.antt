@@ -3,3 +3,5 @@ pub mod Sizes
 pub mod Pairwise
 pub mod Exactly
 pub mod Same
+pub mod Cells
+pub mod Ready

@@ -12,7 +12,7 @@ use Rattle.truth.specs.Signals.{some}
 use Rattle.truth.specs.Truth.{readsOf, holds}
 use Rattle.cover.specs.Coverage.{covered}
 use Rattle.bench.specs.declared.ConditionAnswer.the-variants as answer
-use Rattle.bench.specs.Coverage.{Bench, size, pairCovered, occurrenceCount, heldCount, mattered, matteredCount, allOccurrences, readsCondition, pairsListed, listBytes}
+use Rattle.bench.specs.Coverage.{Bench, size, pairCovered, occurrenceCount, heldOf, mattered, matteredCount, allOccurrences, readsCondition, pairsListed, listBytes}
 use Rattle.bench.specs.Sheet.{suiteLine, reqLine, covLine, blockOf, answerOf, condLine, totalLine, sheetText}
 use Rattle.bench.proofs.Alike.{order-same, sum-same, some-same, below-same, listed-same}
 
@@ -57,7 +57,7 @@ module _ {a b : Bench} (same : Agree a b) where
     occurrences-same : occurrenceCount a q ≡ occurrenceCount b q
     occurrences-same = at (λ (r : List Row). length (occurrences r))
 
-    held-same : heldCount a q ≡ heldCount (counted a b) q
+    held-same : heldOf (a .rows q) (a .runs) (a .words) ≡ heldOf (b .rows q) (a .runs) (b .words)
     held-same = ap length (below-same (a .runs) (λ j l. ap₂ holds (same .rows q q-in) (same .words j l)))
 
     block-same : blockOf a q ≡ blockOf (counted a b) q

@@ -34,13 +34,17 @@ unfoldable pub inOrder : ℕ → (ℕ → List ℕ) → List ℕ
 inOrder zero f = []
 inOrder (suc m) f = inOrder m f ++ f m
 
--- "the requirement holds of the run"
-abbrev pub held : Bench → ℕ → ℕ → Bool
-held b q j = holds (b .rows q) (b .words j)
+-- of one requirement: the pair of the occurrence in row p and run j is covered
+abbrev pub coveredOf : List Row → (ℕ → List ℕ) → ℕ → ℕ → Bool
+coveredOf rows words p j = covered rows (readsOf rows (words j)) (length (words j)) p
+
+-- "`held` the runs it holds of": how many
+abbrev pub heldOf : List Row → ℕ → (ℕ → List ℕ) → ℕ
+heldOf rows runs words = size runs (λ j. holds rows (words j))
 
 -- the pair of the occurrence in row p of requirement q and run j is covered
 abbrev pub pairCovered : Bench → ℕ → ℕ → ℕ → Bool
-pairCovered b q p j = covered (b .rows q) (readsOf (b .rows q) (b .words j)) (length (b .words j)) p
+pairCovered b q = coveredOf (b .rows q) (b .words)
 
 -- how many occurrences a requirement has, and the row of occurrence o
 abbrev pub occurrenceCount : Bench → ℕ → ℕ
@@ -49,13 +53,12 @@ occurrenceCount b q = length (occurrences (b .rows q))
 abbrev pub rowOfOccurrence : List Row → ℕ → ℕ
 rowOfOccurrence rows o = getD (occurrences rows) o 0
 
--- "`held` the runs it holds of"
-abbrev pub heldCount : Bench → ℕ → ℕ
-heldCount b q = size (b .runs) (held b q)
-
 -- an occurrence "with at least one covered pair"
+abbrev pub matteredOf : List Row → ℕ → (ℕ → List ℕ) → ℕ → Bool
+matteredOf rows runs words p = conditionAt rows p && some runs 0 (coveredOf rows words p)
+
 abbrev pub mattered : Bench → ℕ → ℕ → Bool
-mattered b q p = conditionAt (b .rows q) p && some (b .runs) 0 (pairCovered b q p)
+mattered b q = matteredOf (b .rows q) (b .runs) (b .words)
 
 -- "`total`: occurrences with at least one covered pair, all occurrences"
 abbrev pub matteredCount : Bench → ℕ
@@ -81,5 +84,8 @@ abbrev pub pairsListed : List Row → ℕ → (ℕ → ℕ → Bool) → (ℕ �
 pairsListed rows runs covers says =
     inOrder (length (occurrences rows)) (λ o. inOrder runs (λ j. cond (covers (rowOfOccurrence rows o) j) (says o j) []))
 
+abbrev pub pairBytes : ℕ → ℕ → List ℕ
+pairBytes o j = o ∷ j ∷ []
+
 abbrev pub listBytes : Bench → ℕ → List ℕ
-listBytes b q = pairsListed (b .rows q) (b .runs) (pairCovered b q) (λ o j. o ∷ j ∷ [])
+listBytes b q = pairsListed (b .rows q) (b .runs) (pairCovered b q) pairBytes

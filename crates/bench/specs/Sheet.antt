@@ -3,11 +3,13 @@
 use mathlib.Core.Bool.{Bool, cond}
 use mathlib.Core.List.{List, [], _∷_, _++_}
 use Prim.Native.Nat.{ℕ}
+use lib.ListN.{length}
 use Rattle.lines.specs.Lines.{decimal, line}
 use Rattle.rows.specs.Rows.{Row}
+use Rattle.rows.specs.Checks.{occurrences}
 use Rattle.bench.specs.declared.ConditionAnswer.{ConditionAnswer}
 use Rattle.bench.specs.declared.ConditionAnswer.the-variants as answer
-use Rattle.bench.specs.Coverage.{Bench, inOrder, heldCount, pairCovered, occurrenceCount, matteredCount, allOccurrences, conditionRead, conditionCovered, pairsListed}
+use Rattle.bench.specs.Coverage.{Bench, inOrder, heldOf, coveredOf, matteredCount, allOccurrences, conditionRead, conditionCovered, pairsListed}
 
 -- the sheet's words: `suite`, `req`, `occ`, `held`, `cov`, `cond`, `yes`, `no`, `unused`, `total`
 abbrev pub suiteWord : List ℕ
@@ -76,8 +78,12 @@ abbrev pub covLines : List Row → ℕ → (ℕ → ℕ → Bool) → ℕ → Li
 covLines rows runs covers q = pairsListed rows runs covers (covLine q)
 
 -- a requirement's block of lines; what a later wish prints of a requirement comes at its end
+abbrev pub blockFrom : List Row → ℕ → (ℕ → List ℕ) → ℕ → List ℕ
+blockFrom rows runs words q =
+    reqLine q (length (occurrences rows)) (heldOf rows runs words) ++ covLines rows runs (coveredOf rows words) q
+
 abbrev pub blockOf : Bench → ℕ → List ℕ
-blockOf b q = reqLine q (occurrenceCount b q) (heldCount b q) ++ covLines (b .rows q) (b .runs) (pairCovered b q) q
+blockOf b q = blockFrom (b .rows q) (b .runs) (b .words) q
 
 -- the whole sheet
 unfoldable pub sheetText : Bench → List ℕ

@@ -11,6 +11,7 @@ use Rattle.rows.specs.Checks.{conditionAt}
 use Rattle.truth.specs.Signals.{some}
 use Rattle.truth.specs.Truth.{readsOf}
 use Rattle.cover.specs.Coverage.{covered}
+use Rattle.bench.specs.Coverage.{Bench, matteredOf, mattered}
 
 -- the value in a row and column of a table of such a width
 abbrev pub cellOf : ℕ → List Bool → ℕ → ℕ → Bool
@@ -43,3 +44,13 @@ pub record RowNoted (marks : List Bool) (runs q m : ℕ) (before after : List Bo
   pub same-length : length after ≡ length before
   pub here : (p : ℕ) → p < m → noted after q p ≡ some runs 0 (marked marks p)
   pub others : (r p : ℕ) → p < mostRequirementRows → (r ≡ q → ⊥) → noted after r p ≡ noted before r p
+
+-- the notes of requirement q say of each of its rows whether it is an occurrence that mattered, and no others changed
+pub record RequirementNoted (rows : List Row) (runs : ℕ) (words : ℕ → List ℕ) (q : ℕ) (before after : List Bool) : Type 0 where
+  pub same-length : length after ≡ length before
+  pub here : (p : ℕ) → p < length rows → noted after q p ≡ matteredOf rows runs words p
+  pub others : (r p : ℕ) → p < mostRequirementRows → (r ≡ q → ⊥) → noted after r p ≡ noted before r p
+
+-- the notes of the requirements below m are right
+abbrev pub SuiteNoted : Bench → ℕ → List Bool → Type 0
+SuiteNoted b m notes = (q p : ℕ) → q < m → p < length (b .rows q) → noted notes q p ≡ mattered b q p

@@ -9,3 +9,4 @@ pub mod Order
 pub mod Passed
 pub mod Ascending
 pub mod Padded
+pub mod Lent

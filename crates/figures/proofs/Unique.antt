@@ -24,6 +24,9 @@ use Rattle.figures.specs.declared.RequirementAnswer.{RequirementAnswer}
 use Rattle.figures.specs.declared.RequirementAnswer.the-variants as requirement-answer
 use Rattle.figures.specs.declared.RunAnswer.{RunAnswer}
 use Rattle.figures.specs.declared.RunAnswer.the-variants as run-answer
+use Rattle.figures.specs.declared.Output.{Output}
+use Rattle.figures.specs.declared.Output.the-variants as output
+use Rattle.figures.specs.Outputs.{outputSays}
 use Rattle.figures.specs.Refusals.{numberOf, placeOf, Outcome, refusal, checkSays}
 use Rattle.figures.specs.Refusals.Outcome.{refused, gives}
 use Rattle.figures.specs.Limits.{suiteSays, tableSays, requirementSays, runSays}
@@ -136,3 +139,13 @@ check-unique = unique passed check.Refused checkSays read
     read : (a : Check) → readBack passed check.Refused (checkSays a) ≡ a
     read check.Passed = refl
     read (check.Refused r) = read-refusal passed check.Refused r
+
+abbrev wrote : ℕ → Output
+wrote n = output.Written (record { 0 = n })
+
+pub output-unique : {a b : Output} {o : Outcome ℕ} → outputSays a ≡ o → outputSays b ≡ o → a ≡ b
+output-unique = unique wrote output.Refused outputSays read
+  where
+    read : (a : Output) → readBack wrote output.Refused (outputSays a) ≡ a
+    read (output.Written bytes) = refl
+    read (output.Refused r) = read-refusal wrote output.Refused r

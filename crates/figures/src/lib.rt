@@ -84,6 +84,12 @@ pub enum Check {
     Refused(Refusal),
 }
 
+// What an operation answers that writes into lent bytes.
+pub enum Output {
+    Written(ByteCount),
+    Refused(Refusal),
+}
+
 impl Place {
     // What is printed of a place.
     pub fn printed(self) -> PrintedPlace

@@ -98,8 +98,9 @@ pub fn lowest_unsound(rows: &[[u16; 3]], conditions: ConditionCount) -> RowFound
     RowFound::Nowhere
 }
 
-fn one_if(holds: bool) -> usize
-    ensures { λ r. ⌜ r ≡ cond holds 1 0 ⌝ }
+// One more to a count, where something holds.
+pub fn one_if(holds: bool) -> usize
+    ensures { λ r. ⌜ (r ≡ cond holds 1 0) × (r ≤ 1) ⌝ }
 {
     if holds { 1 } else { 0 }
 }

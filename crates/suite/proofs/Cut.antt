@@ -5,7 +5,7 @@ use mathlib.Core.List.{List, [], _∷_, _++_, append-nil, append-assoc}
 use Prim.Native.Nat.{ℕ, zero, suc, _+_, _-_, _*_, _≤_, _<_}
 use native.Mathlib.Omega.{arith}
 use native.Mathlib.Decide.{decLt}
-use lib.ListN.{length, getD, take, drop, length-append, length-take, length-drop, List·getD-eq-default}
+use lib.ListN.{length, getD, take, drop, length-append, length-take, List·getD-eq-default}
 use lib.Seq.{length-take-le, take-length, take-add, drop-drop, getD-take, getD-drop}
 use Rattle.figures.specs.Numbers.{tabulate}
 use Rattle.figures.proofs.Tabulated.{length-tabulate}
@@ -15,6 +15,7 @@ use Rattle.suite.specs.Checks.{Range}
 use Rattle.suite.proofs.Parts.{Bytes}
 use Rattle.suite.proofs.Little.{bytes-back}
 use Rattle.suite.proofs.Right.{ContentsRight}
+use Rattle.suite.proofs.Inside.{begin-in}
 use Rattle.suite.proofs.Contents.{bodies-append, contents-append}
 use Rattle.suite.proofs.Filed.{firstOf, fileOfItems}
 
@@ -47,17 +48,6 @@ module _ (file : List ℕ) (small : Bytes file) (range : Range) (right : Content
   abbrev upTo : ℕ → List Item
   upTo k = tabulate k (found file)
 
-  begin-inside : (m k : ℕ) → k + m ≡ many → mustBegin form1 file k ≤ length file
-  unfolding mustBegin
-  begin-inside zero k e =
-      let last : k ≡ many = omega arith in
-      let same = ap (mustBegin form1 file) last in
-      omega (arith, right .end)
-  begin-inside (suc m) k e = let h = begin-inside m (suc k) (omega arith) in omega arith
-
-  begin-in : (k : ℕ) → k ≤ many → mustBegin form1 file k ≤ length file
-  begin-in k l = begin-inside (many - k) k (omega arith)
-
   -- the bodies so far, after what stands before them
   bodies-cut : (k : ℕ) → k ≤ many → take first file ++ bodiesOf (upTo k) ≡ take (mustBegin form1 file k) file
   unfolding mustBegin tabulate
@@ -74,7 +64,7 @@ module _ (file : List ℕ) (small : Bytes file) (range : Range) (right : Content
   bodies-size : (k : ℕ) → k ≤ many → first + length (bodiesOf (upTo k)) ≡ mustBegin form1 file k
   bodies-size k l =
       let front = length-take-le first file (right .inside) in
-      let whole = length-take-le (mustBegin form1 file k) file (begin-in k l) in
+      let whole = length-take-le (mustBegin form1 file k) file (begin-in file range right k l) in
       omega (arith, ap length (bodies-cut k l), length-append (take first file) (bodiesOf (upTo k)))
 
   entry-cut : (k : ℕ) → k < many → entryOf form1 (startIn form1 file k) (countIn form1 file k) ≡ take 4 (drop (entryAt form1 k) file)
@@ -110,10 +100,3 @@ module _ (file : List ℕ) (small : Bytes file) (range : Range) (right : Content
       ∙ bodies-cut many (omega arith)
       ∙ ap (λ (n : ℕ). take n file) (sym (right .end))
       ∙ take-length file
-
-  pub length-body : (k : ℕ) → k < many → length (bodyIn form1 file k) ≡ bodySize form1 file k
-  unfolding mustBegin
-  length-body k l =
-      let start = right .entries k l .0 in
-      length-take-le (bodySize form1 file k) (drop (startIn form1 file k) file)
-      (omega (arith, begin-in (suc k) l, length-drop (startIn form1 file k) file))

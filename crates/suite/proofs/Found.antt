@@ -19,11 +19,12 @@ use Rattle.suite.proofs.Parts.{partsIn, Bytes}
 use Rattle.suite.proofs.Listed.{tabulate-same, tabulate-add, map-tabulate}
 use Rattle.suite.proofs.Words.{length-wordsOf, word-bytes-back, words-small}
 use Rattle.suite.proofs.Requirements.{rows-coded, passes-in-file as requirement-in-file}
-use Rattle.suite.proofs.Runs.{passes-in-file as run-in-file}
 use Rattle.suite.proofs.Right.{ContentsRight, FileRight}
 use Rattle.suite.proofs.Items.{unit-requirement, unit-run, most-requirement, most-run}
 use Rattle.suite.proofs.Filed.{fileOfItems}
-use Rattle.suite.proofs.Cut.{found, bytes-part, file-cut, length-body}
+use Rattle.suite.proofs.Cut.{found, bytes-part, file-cut}
+use Rattle.suite.proofs.Inside.{length-body}
+use Rattle.suite.proofs.Runs.{passes-in-file as run-in-file}
 
 same-item : {m n : ℕ} {s t : List ℕ} → m ≡ n → s ≡ t → _≡_ {A = Item} (record { count = m; body = s }) (record { count = n; body = t })
 same-item e f = ap₂ (λ (m : ℕ) (s : List ℕ). record { count = m; body = s }) e f
@@ -45,7 +46,7 @@ module _ (file : List ℕ) (small : Bytes file) (right : FileRight form1 file) w
 
     rows-size : length (bodyIn form1 file q) ≡ rowBytes * countIn form1 file q
     rows-size =
-        length-body file small ofSuite contents q (omega arith)
+        length-body file ofSuite contents q (omega arith)
         ∙ ap (λ (u : ℕ). u * countIn form1 file q) (unit-requirement form1 file q l)
 
     rows-many : length rows ≡ countIn form1 file q
@@ -83,7 +84,7 @@ module _ (file : List ℕ) (small : Bytes file) (right : FileRight form1 file) w
 
     words-size : length (bodyIn form1 file place) ≡ wordSize * countIn form1 file place
     words-size =
-        length-body file small ofSuite contents place (omega arith)
+        length-body file ofSuite contents place (omega arith)
         ∙ ap (λ (u : ℕ). u * countIn form1 file place) (unit-run form1 file place (omega arith))
 
     words-many : length words ≡ countIn form1 file place

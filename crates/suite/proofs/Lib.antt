@@ -9,6 +9,7 @@ pub mod Contents
 pub mod Filed
 pub mod Items
 pub mod Written
+pub mod Inside
 pub mod Cut
 pub mod Found
 pub mod Accepted

@@ -1,0 +1,63 @@
+-- `counting::noted_of` meets its contract: the count is that of the noted rows among those passed.
+-- Assumes nothing.
+use borrow.Author.Needs.{needs}
+use native.Mathlib.Omega.{arith}
+use Prim.Native.Nat.{_-_}
+use lib.ListN.{length}
+use Rattle.bench.specs.Tables.{noted}
+use Rattle.suite.specs.Layout.{form1}
+use Rattle.suite.specs.Checks.{requirementRowsIn}
+use Rattle.counting.proofs.Loops.{Counted, counted-none, counted-more, counted-all}
+use Rattle.counting.proofs.noted_of.Statement.{statement}
+use Rattle.counting.proofs.noted_of.Tie as tie
+
+abbrev Inv-loop : tie.InvT-loop
+Inv-loop file q notes many count₀ p₀ count p = Counted (noted notes (q .0)) (length (requirementRowsIn form1 file (q .0))) p count
+
+abbrev μ-loop : tie.MeasureT-loop
+μ-loop file q notes many count₀ p₀ count p = many - p
+
+row-count-requires : tie.Need-row-count-requires Inv-loop μ-loop
+row-count-requires c κs = search needs
+
+loop-holds : tie.Need-loop-holds Inv-loop μ-loop
+loop-holds c = counted-none
+
+is-noted-requires : tie.Need-is-noted-requires Inv-loop μ-loop
+is-noted-requires c κs = search needs
+
+one-if-requires : tie.Need-one-if-requires Inv-loop μ-loop
+one-if-requires c κs = search needs
+
+add-count : tie.Need-add-count Inv-loop μ-loop
+add-count c = search needs
+
+add-p : tie.Need-add-p Inv-loop μ-loop
+add-p c = search needs
+
+loop-less : tie.Need-loop-less Inv-loop μ-loop
+loop-less c = search needs
+
+loop-again : tie.Need-loop-again Inv-loop μ-loop
+loop-again c =
+    let at = c .before .before .before in
+    counted-more (at .loop .inv) (omega arith) (c .before .is-noted .ensures) (c .one-if .ensures)
+
+returns : tie.Need-returns Inv-loop μ-loop
+returns c = let all = counted-all (c .before .loop .inv) (omega arith) in (all .0, omega arith)
+
+pub noted-of-spec : {M : Type 1} → statement M
+noted-of-spec =
+    tie.close
+    (tie.spec
+    Inv-loop
+    μ-loop
+    row-count-requires
+    loop-holds
+    is-noted-requires
+    one-if-requires
+    add-count
+    add-p
+    loop-less
+    loop-again
+    returns)
