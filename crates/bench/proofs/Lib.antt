@@ -5,3 +5,4 @@ pub mod Exactly
 pub mod Same
 pub mod Cells
 pub mod Ready
+pub mod Decoded

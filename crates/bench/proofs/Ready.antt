@@ -1,10 +1,12 @@
 -- A file that passes its checks is ready: the engine can take its requirements and its runs.
 -- Assumes nothing.
-use mathlib.Core.Path.{_≡_, _∙_, ap}
+use mathlib.Core.Path.{_≡_, sym, _∙_, ap}
 use mathlib.Core.List.{List}
 use Prim.Native.Nat.{ℕ, _+_, _*_, _<_}
 use native.Mathlib.Omega.{arith}
 use lib.ListN.{length}
+use Rattle.figures.specs.declared.Suite.{Suite}
+use Rattle.figures.specs.Refusals.Outcome.{gives}
 use Rattle.figures.specs.Limits.{rowBytes, mostRequirementRows}
 use Rattle.figures.proofs.Order.{both-pass, lowest-passes}
 use Rattle.figures.proofs.Passed.{Within}
@@ -12,11 +14,11 @@ use Rattle.rows.proofs.Bytes.{length-rowsOf}
 use Rattle.rows.proofs.Sound.{requirement}
 use Rattle.truth.proofs.Accepted.{fit}
 use Rattle.suite.specs.Layout.{form1, wordSize, conditionsIn, requirementsIn, runsIn, startIn, countIn, bodySize, bodyIn}
-use Rattle.suite.specs.Checks.{ofSuite, requirementRowsIn, runWordsIn}
+use Rattle.suite.specs.Checks.{ofSuite, requirementRowsIn, runWordsIn, fileSays}
 use Rattle.suite.proofs.Inside.{length-body}
 use Rattle.suite.proofs.Items.{unit-requirement, most-requirement, unit-run, most-run}
 use Rattle.suite.proofs.Requirements.{passes-in-file}
-use Rattle.suite.proofs.Right.{ContentsRight, FileRight}
+use Rattle.suite.proofs.Right.{ContentsRight, FileRight, file-gives}
 use Rattle.suite.proofs.Words.{length-wordsOf}
 use Rattle.bench.specs.Files.{RowsReady, RunReady, RequirementsReady, RunsReady}
 
@@ -70,3 +72,16 @@ module _ (file : List ℕ) (right : FileRight form1 file) where
           let many = step-count j l in
           let most = most-run form1 file k (omega arith) in
           record { some-step = omega (arith, entry .0); few-steps = omega (arith, entry .1) }
+
+-- a file that gives its counts is ready, and the counts are those in its head
+pub ready :
+    (file : List ℕ) {counts : Suite} → gives counts ≡ fileSays form1 file →
+    RequirementsReady file × RunsReady file × (counts .conditions .0 ≡ conditionsIn file) × (counts .requirements .0 ≡ requirementsIn file) × (counts .runs .0 ≡ runsIn file)
+ready file {counts} e =
+    let (right, same) = file-gives form1 file counts .0 (sym e) in (
+      requirements-ready file right,
+      runs-ready file right,
+      ap (λ (s : Suite). s .conditions .0) (sym same),
+      ap (λ (s : Suite). s .requirements .0) (sym same),
+      ap (λ (s : Suite). s .runs .0) (sym same),
+    )

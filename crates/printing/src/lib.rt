@@ -1,4 +1,4 @@
-// The lines of the bench sheet and the pairs of the list, written into lent bytes from a table of marked pairs.
+// The lines of the bench sheet, written into lent bytes; the `cov` lines from a table of marked pairs.
 ghost use mathlib.Core.Path.{_≡_};
 ghost use mathlib.Core.Bool.{cond};
 ghost use mathlib.Core.List.{[], _∷_};
@@ -6,7 +6,7 @@ ghost use Prim.Native.Nat.{_+_, _*_, _≤_, _<_};
 ghost use lib.ListN.{length};
 ghost use Rattle.lines.specs.Lines.{line, Put};
 ghost use Rattle.rows.specs.Checks.{occurrences};
-ghost use Rattle.bench.specs.Coverage.{inOrder, rowOfOccurrence, pairsListed};
+ghost use Rattle.bench.specs.Coverage.{inOrder, rowOfOccurrence};
 ghost use Rattle.bench.specs.Tables.{marked};
 ghost use Rattle.bench.specs.Sheet.{suiteLine, reqLine, covLine, covLines, condLine, answerWord, totalLine};
 use bench::ConditionAnswer;
@@ -34,7 +34,7 @@ pub fn is_marked(marks: &[bool; Marks::MANY], p: RowNumber, j: RunNumber) -> boo
 }
 
 // The row of an occurrence that is there.
-fn row_of(rows: &[[u16; 3]], o: OccurrenceNumber) -> RowNumber
+pub fn row_of(rows: &[[u16; 3]], o: OccurrenceNumber) -> RowNumber
     requires { ⌜ o .0 < length (occurrences (now rows)) ⌝ }
     ensures { λ r. ⌜ (r .0 ≡ rowOfOccurrence (now (rows .entry)) (o .0)) × (r .0 < length (now (rows .entry))) ⌝ }
 {
@@ -201,84 +201,6 @@ pub fn put_covs(
     while o < many {
         let p = row_of(rows, OccurrenceNumber(o));
         end = put_covs_of(q, OccurrenceNumber(o), p, marks, runs, out, ByteCount(end)).0;
-        o += 1;
-    }
-    ByteCount(end)
-}
-
-// One pair: occurrence, run.
-fn put_pair(first: u8, second: u8, out: &mut [u8], at: ByteCount) -> ByteCount
-    requires { ⌜ at .0 + 2 ≤ length (now out) ⌝ }
-    ensures { λ r. ⌜ r .0 ≡ at .0 + 2 ⌝ }
-    ensures { λ _. ⌜ Put (now (out .entry)) (at .0) (first ∷ second ∷ []) (now (out .exit)) ⌝ }
-{
-    let from = at.0;
-    out[from] = first;
-    out[from + 1] = second;
-    ByteCount(from + 2)
-}
-
-// A pair where it is marked, and nothing where it is not.
-fn put_pair_if(
-    mark: bool,
-    o: OccurrenceNumber,
-    j: RunNumber,
-    out: &mut [u8],
-    at: ByteCount,
-) -> ByteCount
-    requires { ⌜ (o .0 < 100) × (j .0 < 100) × (at .0 + 2 ≤ length (now out)) ⌝ }
-    ensures { λ r. ⌜ (r .0 ≡ at .0 + length (cond mark (o .0 ∷ j .0 ∷ []) [])) × (r .0 ≤ at .0 + 2) ⌝ }
-    ensures { λ _. ⌜ Put (now (out .entry)) (at .0) (cond mark (o .0 ∷ j .0 ∷ []) []) (now (out .exit)) ⌝ }
-{
-    if mark {
-        put_pair((o.0 % 256) as u8, (j.0 % 256) as u8, out, at)
-    } else {
-        at
-    }
-}
-
-// The pairs of one occurrence, which stands in row p: two bytes a marked run.
-fn list_pairs_of(
-    o: OccurrenceNumber,
-    p: RowNumber,
-    marks: &[bool; Marks::MANY],
-    runs: RunCount,
-    out: &mut [u8],
-    at: ByteCount,
-) -> ByteCount
-    requires { ⌜ (o .0 < 100) × (p .0 < 32) × (runs .0 ≤ 64) × (at .0 + 2 * runs .0 ≤ length (now out)) ⌝ }
-    ensures { λ r. ⌜ (r .0 ≡ at .0 + length (inOrder (runs .0) (λ j. cond (marked (now (marks .entry)) (p .0) j) (o .0 ∷ j ∷ []) []))) × (r .0 ≤ at .0 + 2 * runs .0) ⌝ }
-    ensures { λ _. ⌜ Put (now (out .entry)) (at .0) (inOrder (runs .0) (λ j. cond (marked (now (marks .entry)) (p .0) j) (o .0 ∷ j ∷ []) [])) (now (out .exit)) ⌝ }
-{
-    let many = runs.0;
-    let mut end = at.0;
-    let mut j = 0;
-    while j < many {
-        let mark = is_marked(marks, p, RunNumber(j));
-        end = put_pair_if(mark, o, RunNumber(j), out, ByteCount(end)).0;
-        j += 1;
-    }
-    ByteCount(end)
-}
-
-// The pairs of a requirement, by occurrence and then by run.
-pub fn list_pairs(
-    rows: &[[u16; 3]],
-    marks: &[bool; Marks::MANY],
-    runs: RunCount,
-    out: &mut [u8],
-    at: ByteCount,
-) -> ByteCount
-    requires { ⌜ (length (now rows) ≤ 32) × (runs .0 ≤ 64) × (at .0 + 128 * length (now rows) ≤ length (now out)) ⌝ }
-    ensures { λ r. ⌜ (r .0 ≡ at .0 + length (pairsListed (now (rows .entry)) (runs .0) (marked (now (marks .entry))) (λ o j. o ∷ j ∷ []))) × (r .0 ≤ at .0 + 128 * length (now (rows .entry))) ⌝ }
-    ensures { λ _. ⌜ Put (now (out .entry)) (at .0) (pairsListed (now (rows .entry)) (runs .0) (marked (now (marks .entry))) (λ o j. o ∷ j ∷ [])) (now (out .exit)) ⌝ }
-{
-    let many = rows::occurrence_count(rows).0;
-    let mut end = at.0;
-    let mut o = 0;
-    while o < many {
-        let p = row_of(rows, OccurrenceNumber(o));
-        end = list_pairs_of(OccurrenceNumber(o), p, marks, runs, out, ByteCount(end)).0;
         o += 1;
     }
     ByteCount(end)

@@ -6,7 +6,9 @@ ghost use Rattle.figures.specs.Limits.{rowBytes, mostTableRows};
 use cover::Witnessed;
 use figures::ConditionCount;
 use figures::OccurrenceNumber;
+use figures::Output;
 use figures::Refusal;
+use figures::RequirementNumber;
 use figures::Run;
 use figures::Table;
 use libc::STDOUT_FILENO;
@@ -104,6 +106,12 @@ fn refusals() {
         b"unknown kind",
         truth::truth(b"\x02\x00\x00\x0d\x00\x00", &stray, ConditionCount(31)),
     );
+}
+
+// The same: rows, steps and bits, and which comes first.
+fn later_refusals() {
+    let table = [2u8, 0, 0, 2, 31, 0, 5, 0, 1, 10, 2, 0];
+    let stray = [0u32, 1 << 31, 1 << 30];
     say(
         b"own row named",
         truth::truth(b"\x02\x00\x00\x03\x01\x00", &stray, ConditionCount(31)),
@@ -161,6 +169,11 @@ fn kinds() {
             ConditionCount(2),
         ),
     );
+}
+
+// Until and weak until, where they differ.
+fn untils() {
+    let run = [1u32, 0, 3];
     say(
         b"a weak until b",
         truth::truth(
@@ -264,6 +277,11 @@ fn traps() {
     );
     let mut short = [170u8; 29];
     say_trap(b"a byte too few", &finally, OccurrenceNumber(0), &mut short);
+}
+
+// Requirements that are refused, and those that add no row.
+fn small_traps() {
+    let finally = [2u8, 0, 0, 2, 1, 0, 5, 0, 1, 10, 2, 0];
     let mut small = [170u8; 8];
     say_trap(
         b"no third occurrence",
@@ -322,6 +340,11 @@ fn witnesses() {
         OccurrenceNumber(0),
         &mut out,
     );
+}
+
+// Witnesses with a byte too few, and refusals.
+fn short_witnesses() {
+    let finally = [2u8, 0, 0, 2, 1, 0, 5, 0, 1, 10, 2, 0];
     let mut short = [170u8; 2];
     say_witness(
         b"covered, a byte too few",
@@ -353,10 +376,191 @@ fn witnesses() {
     );
 }
 
+// What the program `sheet` prints of a file of data/.
+fn say_page(name: &[u8]) {
+    io::write_all(STDOUT_FILENO, name);
+    io::write_all(STDOUT_FILENO, b":\n");
+    let file = os::open_read(name);
+    if file < 0 {
+        os::fail(name);
+        return;
+    }
+    let mut input = io::large_buffer();
+    let count = io::read_full(file, &mut input);
+    libc::close(file);
+    let mut text = sheets::blank();
+    let end = sheets::put_page(&input[..count], &mut text).0;
+    io::write_all(STDOUT_FILENO, &text[..end]);
+}
+
+// Suites that are taken: document 01's, the smallest, and one with every kind of row.
+fn suites() {
+    say_page(b"example");
+    say_page(b"smallest");
+    say_page(b"kinds");
+    say_page(b"full");
+}
+
+// The limits of a file, from both sides.
+fn limits() {
+    say_page(b"rows32");
+    say_page(b"rows33");
+    say_page(b"steps4096");
+    say_page(b"steps4097");
+    say_page(b"requirements16");
+    say_page(b"requirements17");
+    say_page(b"runs64");
+    say_page(b"runs65");
+    say_page(b"conditions32");
+    say_page(b"conditions33");
+    say_page(b"bytes65535");
+    say_page(b"bytes65536");
+}
+
+// Files that are cut, and heads that are wrong: 1 to 4.
+fn cut_files() {
+    say_page(b"bytes0");
+    say_page(b"bytes3");
+    say_page(b"bytes4");
+    say_page(b"form2");
+    say_page(b"conditions0");
+    say_page(b"requirements0");
+    say_page(b"runs0");
+    say_page(b"cut-in-contents");
+    say_page(b"cut-after-contents");
+}
+
+// Contents that are wrong: 5 and 6.
+fn wrong_contents() {
+    say_page(b"second-start-wrong");
+    say_page(b"count0");
+    say_page(b"start-big-endian");
+    say_page(b"start-past-65535");
+    say_page(b"one-byte-more");
+    say_page(b"one-byte-less");
+    say_page(b"wrong-by-5-and-6");
+}
+
+// Requirements and runs that are wrong: 8, 9 and 11.
+fn wrong_parts() {
+    say_page(b"unknown-kind");
+    say_page(b"own-row-named");
+    say_page(b"unused-field");
+    say_page(b"condition-past-count");
+    say_page(b"named-twice");
+    say_page(b"not-over-or");
+    say_page(b"wrong-by-9-then-8");
+    say_page(b"wrong-by-8-and-9");
+    say_page(b"stray-bit");
+    say_page(b"stray-top-bit");
+    say_page(b"wrong-by-8-and-11");
+}
+
+fn say_output(label: &[u8], answer: Output) {
+    io::write_all(STDOUT_FILENO, label);
+    match answer {
+        Output::Written(n) => {
+            io::write_all(STDOUT_FILENO, b": written ");
+            io::print_decimal(STDOUT_FILENO, n.0 as u64);
+            io::write_all(STDOUT_FILENO, b"\n");
+        }
+        Output::Refused(r) => say_refused(r),
+    }
+}
+
+// The list of a requirement of a file of data/, and all of the lent bytes.
+fn say_list(label: &[u8], name: &[u8], q: RequirementNumber, out: &mut [u8]) {
+    let file = os::open_read(name);
+    if file < 0 {
+        os::fail(name);
+        return;
+    }
+    let mut input = io::large_buffer();
+    let count = io::read_full(file, &mut input);
+    libc::close(file);
+    say_output(label, listing::list(&input[..count], q, out));
+    say_bytes(out);
+}
+
+// The sheet and then the page of a file of data/, and all of the lent bytes after each.
+fn say_sheet(label: &[u8], name: &[u8], out: &mut [u8]) {
+    let file = os::open_read(name);
+    if file < 0 {
+        os::fail(name);
+        return;
+    }
+    let mut input = io::large_buffer();
+    let count = io::read_full(file, &mut input);
+    libc::close(file);
+    say_output(label, sheets::sheet(&input[..count], out));
+    say_bytes(out);
+    say_output(b"page", sheets::page(&input[..count], out));
+    say_bytes(out);
+}
+
+// The list of document 01's suite: with room, with none to spare, with a byte too few, of no requirement, and of a cut file.
+fn lists() {
+    let mut roomy = [170u8; 9];
+    say_list(b"list", b"example", RequirementNumber(0), &mut roomy);
+    let mut exact = [170u8; 8];
+    say_list(
+        b"none to spare",
+        b"example",
+        RequirementNumber(0),
+        &mut exact,
+    );
+    let mut short = [170u8; 7];
+    say_list(
+        b"a byte too few",
+        b"example",
+        RequirementNumber(0),
+        &mut short,
+    );
+    say_list(
+        b"requirement 1",
+        b"example",
+        RequirementNumber(1),
+        &mut short,
+    );
+    say_list(
+        b"a cut file",
+        b"one-byte-less",
+        RequirementNumber(1),
+        &mut short,
+    );
+}
+
+// The sheet and the page of document 01's suite, which has 70 bytes, and of a cut file, whose page has 12.
+fn sheets_and_pages() {
+    let mut roomy = [170u8; 71];
+    say_sheet(b"sheet", b"example", &mut roomy);
+    let mut short = [170u8; 69];
+    say_sheet(b"sheet, a byte too few", b"example", &mut short);
+    let mut small = [170u8; 13];
+    say_sheet(b"sheet of a cut file", b"one-byte-less", &mut small);
+    let mut smaller = [170u8; 11];
+    say_sheet(
+        b"sheet of a cut file, a byte too few",
+        b"one-byte-less",
+        &mut smaller,
+    );
+}
+
 fn main() {
     longest();
     refusals();
+    later_refusals();
     kinds();
+    untils();
     traps();
+    small_traps();
     witnesses();
+    short_witnesses();
+    suites();
+    limits();
+    cut_files();
+    wrong_contents();
+    wrong_parts();
+    lists();
+    sheets_and_pages();
 }

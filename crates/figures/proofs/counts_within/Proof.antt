@@ -5,19 +5,15 @@ use Rattle.figures.proofs.counts_within.Reads as reads
 use Rattle.figures.proofs.counts_within.Lts as lts
 use Rattle.figures.proofs.within.Reads as within-reads
 
--- src/lib.rt:160:5
 within-requires : tie.Need-within-requires
 within-requires c κs = search needs
 
--- src/lib.rt:161:12
 within-requires-2 : tie.Need-within-requires-2
 within-requires-2 c κs = search needs
 
--- src/lib.rt:161:59
 within-requires-3 : tie.Need-within-requires-3
 within-requires-3 c κs = search needs
 
--- src/lib.rt:157:1
 returns : tie.Need-returns
 returns c = cc
 

@@ -5,11 +5,9 @@ use Rattle.figures.proofs.rows_within.Reads as reads
 use Rattle.figures.proofs.rows_within.Lts as lts
 use Rattle.figures.proofs.within.Reads as within-reads
 
--- src/lib.rt:167:39
 within-requires : tie.Need-within-requires
 within-requires c κs = search needs
 
--- src/lib.rt:164:1
 returns : tie.Need-returns
 returns c = cc
 

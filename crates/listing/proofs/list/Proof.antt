@@ -1,20 +1,17 @@
 -- `listing::list` meets its contract: it gives the refusal of the file, or what its own requirements and runs give.
 -- Assumes nothing.
 use borrow.Author.Needs.{needs}
-use mathlib.Core.Path.{_≡_, refl, sym, ap}
+use mathlib.Core.Path.{_≡_, refl, ap}
 use mathlib.Core.List.{List}
 use Prim.Native.Nat.{ℕ}
 use lib.ListN.{length}
 use Rattle.figures.specs.declared.Suite.{Suite}
 use Rattle.figures.specs.Refusals.{Outcome, _then_}
-use Rattle.figures.specs.Refusals.Outcome.{gives}
 use Rattle.figures.specs.Limits.{suiteSays}
 use Rattle.figures.proofs.Known.{said}
-use Rattle.suite.specs.Layout.{form1, requirementsIn, runsIn}
+use Rattle.suite.specs.Layout.{form1}
 use Rattle.suite.specs.Checks.{fileSays}
-use Rattle.suite.proofs.Right.{file-gives}
-use Rattle.bench.specs.Files.{RequirementsReady, RunsReady}
-use Rattle.bench.proofs.Ready.{requirements-ready, runs-ready}
+use Rattle.bench.proofs.Ready.{ready}
 use Rattle.listing.specs.Answers.{listFrom, listOf, listed}
 use Rattle.figures.proofs.Lent.{along, answered}
 use Rattle.listing.proofs.list.Statement.{statement}
@@ -25,18 +22,6 @@ by-file :
     (file : List ℕ) (q room : ℕ) {o : Outcome Suite} → o ≡ fileSays form1 file → (o then λ _. listFrom file file q room) ≡ listOf file q room
 unfolding listOf
 by-file file q room e = ap (λ o. o then λ _. listFrom file file q room) e
-
--- a file that gives its counts is ready
-ready :
-    (file : List ℕ) {counts : Suite} → gives counts ≡ fileSays form1 file →
-    RequirementsReady file × RunsReady file × (counts .requirements .0 ≡ requirementsIn file) × (counts .runs .0 ≡ runsIn file)
-ready file {counts} e =
-    let (right, same) = file-gives form1 file counts .0 (sym e) in (
-      requirements-ready file right,
-      runs-ready file right,
-      ap (λ (s : Suite). s .requirements .0) (sym same),
-      ap (λ (s : Suite). s .runs .0) (sym same),
-    )
 
 check-requires : tie.Need-check-requires
 check-requires c κs = search needs
@@ -50,8 +35,8 @@ enum-known-counts c = search needs
 list-from-requires : tie.Need-list-from-requires
 list-from-requires c κs =
     let match = c .before .before .before in
-    ready (match .before .before .before .before .args .file .now)
-    (said suiteSays (λ o. o) (match .before .check .ensures) (c .before .before .counts .given .1))
+    let h = ready (match .before .before .before .before .args .file .now) (said suiteSays (λ o. o) (match .before .check .ensures) (c .before .before .counts .given .1)) in
+    (h .0, h .1, h .3, h .4)
 
 returns : tie.Need-returns
 returns c =

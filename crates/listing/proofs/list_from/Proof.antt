@@ -3,47 +3,21 @@
 use borrow.Author.Needs.{needs}
 use borrow.Author.Tests.{lt-ltb, le-ltb}
 use native.Mathlib.Omega.{arith}
-use mathlib.Core.Path.{_≡_, refl, sym, _∙_, ap, subst}
+use mathlib.Core.Path.{_≡_, refl, sym, ap, subst}
 use mathlib.Core.Bool.{Bool, cond}
 use mathlib.Core.List.{List}
-use Prim.Native.Nat.{ℕ, _/_, _≤_, _<_}
-use lib.ListN.{length, take}
+use Prim.Native.Nat.{ℕ, _≤_, _<_}
+use lib.ListN.{length}
 use Rattle.figures.specs.declared.Refusal.the-variants.{NoSuch}
 use Rattle.figures.specs.Refusals.{Outcome, refusal}
-use Rattle.figures.specs.Limits.{rowBytes, mostTableRows}
-use Rattle.figures.proofs.Padded.{inside, front, front-length}
-use Rattle.rows.specs.Rows.{Row, row}
-use Rattle.rows.specs.Codec.{rowOf, rowsOf, padded}
-use Rattle.rows.proofs.Bytes.{length-rowsOf}
-use Rattle.suite.specs.Layout.{form1, requirementsIn, runsIn, bodyIn}
+use Rattle.rows.specs.Rows.{Row}
+use Rattle.suite.specs.Layout.{form1, requirementsIn, runsIn}
 use Rattle.suite.specs.Checks.{requirementRowsIn, runWordsIn}
-use Rattle.bench.specs.Files.{RowsReady, RequirementsReady}
+use Rattle.bench.proofs.Decoded.{rows-inside, lent-length, lent, lent-ready}
 use Rattle.listing.specs.Answers.{pairsOf, rowsListed, listFrom}
 use Rattle.figures.proofs.Lent.{Answered, along, answered}
 use Rattle.listing.proofs.list_from.Statement.{statement}
 use Rattle.listing.proofs.list_from.Tie as tie
-
--- the rows decoded from a requirement's body are the front of the array
-module _
-    {file : List ℕ} {q : ℕ} (ready : RequirementsReady file) (l : q < requirementsIn file) {body : List ℕ} (is : body ≡ bodyIn form1 file q)
-    {array : List Row} (made : array ≡ padded mostTableRows (rowsOf body)) where
-  abbrev count : ℕ
-  count = length body / rowBytes
-
-  few : count ≤ mostTableRows
-  few = omega (arith, ready .rows q l .few-rows, length-rowsOf (bodyIn form1 file q), ap length is)
-
-  rows-inside : count ≤ length array
-  rows-inside = inside (row 0 0 0) mostTableRows (rowOf body) count few made
-
-  lent-length : count ≡ length (take count array)
-  lent-length = front-length (row 0 0 0) mostTableRows (rowOf body) count few made
-
-  lent : take count array ≡ requirementRowsIn form1 file q
-  lent = front (row 0 0 0) mostTableRows (rowOf body) count few made ∙ ap rowsOf is
-
-  lent-ready : RowsReady (take count array)
-  lent-ready = subst RowsReady (sym lent) (ready .rows q l)
 
 module _ (ours theirs : List ℕ) (q : ℕ) (out : List ℕ) where
   -- what rows say of the runs, an answer, and the lent bytes that it leaves

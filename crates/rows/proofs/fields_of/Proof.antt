@@ -9,39 +9,30 @@ use Rattle.rows.proofs.fields_of.Tie as tie
 use Rattle.rows.proofs.fields_of.Reads as reads
 use Rattle.rows.proofs.fields_of.Lts as lts
 
--- src/lib.rt:30:1
 returns : tie.Need-returns
 returns c = search needs
 
--- src/lib.rt:30:1
 returns-2 : tie.Need-returns-2
 returns-2 c = search needs
 
--- src/lib.rt:30:1
 returns-3 : tie.Need-returns-3
 returns-3 c = search needs
 
--- src/lib.rt:30:1
 returns-4 : tie.Need-returns-4
 returns-4 c = in-range (λ k. Neither ≡ fieldsOf (kindOf k)) 0 (c .before .before .args .kind) refl refl (omega arith) (omega arith)
 
--- src/lib.rt:30:1
 returns-5 : tie.Need-returns-5
 returns-5 c = in-range (λ k. TwoRows ≡ fieldsOf (kindOf k)) 4 (c .before .before .before .args .kind) refl refl (omega arith) (omega arith)
 
--- src/lib.rt:30:1
 returns-6 : tie.Need-returns-6
 returns-6 c = in-range (λ k. OneRow ≡ fieldsOf (kindOf k)) 6 (c .before .before .before .before .args .kind) refl refl (omega arith) (omega arith)
 
--- src/lib.rt:30:1
 returns-7 : tie.Need-returns-7
 returns-7 c = in-range (λ k. TwoRows ≡ fieldsOf (kindOf k)) 8 (c .before .before .before .before .before .args .kind) refl refl (omega arith) (omega arith)
 
--- src/lib.rt:30:1
 returns-8 : tie.Need-returns-8
 returns-8 c = in-range (λ k. OneRow ≡ fieldsOf (kindOf k)) 10 (c .before .before .before .before .before .before .args .kind) refl refl (omega arith) (omega arith)
 
--- src/lib.rt:30:1
 returns-9 : tie.Need-returns-9
 returns-9 c = rw (unknown (c .before .before .before .before .before .before .args .kind) (omega arith))
 

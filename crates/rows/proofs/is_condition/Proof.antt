@@ -8,23 +8,18 @@ use Rattle.rows.proofs.is_condition.Tie as tie
 use Rattle.rows.proofs.is_condition.Reads as reads
 use Rattle.rows.proofs.is_condition.Lts as lts
 
--- src/lib.rt:128:26
 mul-result : tie.Need-mul-result
 mul-result c = search needs
 
--- src/lib.rt:128:26
 index-1-result : tie.Need-index-1-result
 index-1-result c = search needs
 
--- src/lib.rt:128:26
 index-2-result : tie.Need-index-2-result
 index-2-result c = search needs
 
--- src/lib.rt:124:1
 returns : tie.Need-returns
 returns c = search needs
 
--- src/lib.rt:124:1
 returns-2 : tie.Need-returns-2
 returns-2 c = simp (List·getD-eq-default {A = Row} (c .before .args .rows .now) [] {n = c .before .args .r .0} (omega arith))
 

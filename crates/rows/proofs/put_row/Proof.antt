@@ -7,47 +7,36 @@ use Rattle.rows.proofs.put_row.Tie as tie
 use Rattle.rows.proofs.put_row.Reads as reads
 use Rattle.rows.proofs.put_row.Lts as lts
 
--- src/lib.rt:230:15
 array-read-out : tie.Need-array-read-out
 array-read-out c = search needs
 
--- src/lib.rt:230:14
 cast-out : tie.Need-cast-out
 cast-out c = search needs
 
--- src/lib.rt:230:5
 slice-write-out : tie.Need-slice-write-out
 slice-write-out c = search needs
 
--- src/lib.rt:231:15
 array-read-out-2 : tie.Need-array-read-out-2
 array-read-out-2 c = search needs
 
--- src/lib.rt:231:14
 cast-out-2 : tie.Need-cast-out-2
 cast-out-2 c = search needs
 
--- src/lib.rt:231:5
 slice-write-out-2 : tie.Need-slice-write-out-2
 slice-write-out-2 c = lt-length-set (c .args .out .now) 0 _ {i = 1} (omega arith)
 
--- src/lib.rt:232:15
 array-read-out-3 : tie.Need-array-read-out-3
 array-read-out-3 c = search needs
 
--- src/lib.rt:232:14
 cast-out-3 : tie.Need-cast-out-3
 cast-out-3 c = search needs
 
--- src/lib.rt:232:5
 slice-write-out-3 : tie.Need-slice-write-out-3
 slice-write-out-3 c = search needs
 
--- src/lib.rt:226:1
 same-length : tie.Need-same-length
 same-length c = search needs
 
--- src/lib.rt:226:1
 returns : tie.Need-returns
 returns c = set-front (c .args .out .now) _ _ _ (c .pre)
 

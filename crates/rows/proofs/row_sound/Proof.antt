@@ -15,67 +15,51 @@ use Rattle.rows.proofs.fields_of.Reads as fields-of-reads
 by : (conditions r : ℕ) (row : Row) {f g x : Fields} → f ≡ g → f ≡ x → fieldsSound x conditions r (first row) (second row) ≡ fieldsSound g conditions r (first row) (second row)
 by conditions r row = known (λ f. fieldsSound f conditions r (first row) (second row))
 
--- src/lib.rt:50:17
 array-read-first : tie.Need-array-read-first
 array-read-first c = search needs
 
--- src/lib.rt:50:17
 cast-first : tie.Need-cast-first
 cast-first c = search needs
 
--- src/lib.rt:51:18
 array-read-second : tie.Need-array-read-second
 array-read-second c = search needs
 
--- src/lib.rt:51:18
 cast-second : tie.Need-cast-second
 cast-second c = search needs
 
--- src/lib.rt:54:21
 array-read-fields-of : tie.Need-array-read-fields-of
 array-read-fields-of c = search needs
 
--- src/lib.rt:54:11
 fields-of-requires : tie.Need-fields-of-requires
 fields-of-requires c κs = search needs
 
--- src/lib.rt:55:29
 enum-told : tie.Need-enum-told
 enum-told c = search needs
 
--- src/lib.rt:56:31
 enum-told-2 : tie.Need-enum-told-2
 enum-told-2 c = search needs
 
--- src/lib.rt:57:28
 enum-told-3 : tie.Need-enum-told-3
 enum-told-3 c = search needs
 
--- src/lib.rt:58:29
 enum-told-4 : tie.Need-enum-told-4
 enum-told-4 c = search needs
 
--- src/lib.rt:59:28
 enum-told-5 : tie.Need-enum-told-5
 enum-told-5 c = search needs
 
--- src/lib.rt:47:1
 returns : tie.Need-returns
 returns c = let a = c .before .before .before .args in by (a .conditions .0) (a .at .0) (a .t1) (c .before .before .fields-of .ensures) (c .enum-told .given .1)
 
--- src/lib.rt:47:1
 returns-2 : tie.Need-returns-2
 returns-2 c = let a = c .before .before .before .args in by (a .conditions .0) (a .at .0) (a .t1) (c .before .before .fields-of .ensures) (c .enum-told2 .given .1)
 
--- src/lib.rt:47:1
 returns-3 : tie.Need-returns-3
 returns-3 c = let a = c .before .before .before .args in by (a .conditions .0) (a .at .0) (a .t1) (c .before .before .fields-of .ensures) (c .enum-told3 .given .1)
 
--- src/lib.rt:47:1
 returns-4 : tie.Need-returns-4
 returns-4 c = let a = c .before .before .before .args in by (a .conditions .0) (a .at .0) (a .t1) (c .before .before .fields-of .ensures) (c .enum-told4 .given .1)
 
--- src/lib.rt:47:1
 returns-5 : tie.Need-returns-5
 returns-5 c = let a = c .before .before .before .args in by (a .conditions .0) (a .at .0) (a .t1) (c .before .before .fields-of .ensures) (c .enum-told5 .given .1)
 

@@ -6,127 +6,96 @@ use Rattle.figures.proofs.Refusal.place.Lts as lts
 use Rattle.figures.proofs.RowPlace.place.Reads as RowPlace-place-reads
 use Rattle.figures.proofs.StepPlace.place.Reads as StepPlace-place-reads
 
--- src/lib.rt:132:35
 enum-told : tie.Need-enum-told
 enum-told c = search needs
 
--- src/lib.rt:133:30
 enum-told-2 : tie.Need-enum-told-2
 enum-told-2 c = search needs
 
--- src/lib.rt:134:32
 enum-told-3 : tie.Need-enum-told-3
 enum-told-3 c = search needs
 
--- src/lib.rt:135:37
 enum-told-4 : tie.Need-enum-told-4
 enum-told-4 c = search needs
 
--- src/lib.rt:136:28
 enum-known-self : tie.Need-enum-known-self
 enum-known-self c = search needs
 
--- src/lib.rt:137:33
 enum-told-5 : tie.Need-enum-told-5
 enum-told-5 c = search needs
 
--- src/lib.rt:138:37
 enum-told-6 : tie.Need-enum-told-6
 enum-told-6 c = search needs
 
--- src/lib.rt:139:33
 enum-known-self-2 : tie.Need-enum-known-self-2
 enum-known-self-2 c = search needs
 
--- src/lib.rt:139:40
 place-requires : tie.Need-place-requires
 place-requires c κs = search needs
 
--- src/lib.rt:140:37
 enum-known-self-3 : tie.Need-enum-known-self-3
 enum-known-self-3 c = search needs
 
--- src/lib.rt:140:44
 place-requires-2 : tie.Need-place-requires-2
 place-requires-2 c κs = search needs
 
--- src/lib.rt:141:35
 enum-told-7 : tie.Need-enum-told-7
 enum-told-7 c = search needs
 
--- src/lib.rt:142:31
 enum-known-self-4 : tie.Need-enum-known-self-4
 enum-known-self-4 c = search needs
 
--- src/lib.rt:142:38
 place-requires-3 : tie.Need-place-requires-3
 place-requires-3 c κs = search needs
 
--- src/lib.rt:143:32
 enum-told-8 : tie.Need-enum-told-8
 enum-told-8 c = search needs
 
--- src/lib.rt:144:34
 enum-told-9 : tie.Need-enum-told-9
 enum-told-9 c = search needs
 
--- src/lib.rt:145:37
 enum-told-10 : tie.Need-enum-told-10
 enum-told-10 c = search needs
 
--- src/lib.rt:128:5
 returns : tie.Need-returns
 returns c = search needs
 
--- src/lib.rt:128:5
 returns-2 : tie.Need-returns-2
 returns-2 c = search needs
 
--- src/lib.rt:128:5
 returns-3 : tie.Need-returns-3
 returns-3 c = search needs
 
--- src/lib.rt:128:5
 returns-4 : tie.Need-returns-4
 returns-4 c = search needs
 
--- src/lib.rt:128:5
 returns-5 : tie.Need-returns-5
 returns-5 c = rw (c .before .self .given .1)
 
--- src/lib.rt:128:5
 returns-6 : tie.Need-returns-6
 returns-6 c = search needs
 
--- src/lib.rt:128:5
 returns-7 : tie.Need-returns-7
 returns-7 c = search needs
 
--- src/lib.rt:128:5
 returns-8 : tie.Need-returns-8
 returns-8 c = search needs
 
--- src/lib.rt:128:5
 returns-9 : tie.Need-returns-9
 returns-9 c = search needs
 
--- src/lib.rt:128:5
 returns-10 : tie.Need-returns-10
 returns-10 c = search needs
 
--- src/lib.rt:128:5
 returns-11 : tie.Need-returns-11
 returns-11 c = search needs
 
--- src/lib.rt:128:5
 returns-12 : tie.Need-returns-12
 returns-12 c = search needs
 
--- src/lib.rt:128:5
 returns-13 : tie.Need-returns-13
 returns-13 c = search needs
 
--- src/lib.rt:128:5
 returns-14 : tie.Need-returns-14
 returns-14 c = search needs
 

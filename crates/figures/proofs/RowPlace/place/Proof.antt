@@ -4,19 +4,15 @@ use Rattle.figures.proofs.RowPlace.place.Tie as tie
 use Rattle.figures.proofs.RowPlace.place.Reads as reads
 use Rattle.figures.proofs.RowPlace.place.Lts as lts
 
--- src/lib.rt:89:28
 enum-known-self : tie.Need-enum-known-self
 enum-known-self c = search needs
 
--- src/lib.rt:90:28
 enum-known-self-2 : tie.Need-enum-known-self-2
 enum-known-self-2 c = search needs
 
--- src/lib.rt:85:5
 returns : tie.Need-returns
 returns c = rw (c .before .self .given .1)
 
--- src/lib.rt:85:5
 returns-2 : tie.Need-returns-2
 returns-2 c = rw (c .before .self2 .given .1)
 

@@ -8,16 +8,13 @@ use Rattle.figures.proofs.Suite.file.Reads as reads
 use Rattle.figures.proofs.Suite.file.Lts as lts
 use Rattle.figures.proofs.within.Reads as within-reads
 
--- src/lib.rt:239:12
 within-requires : tie.Need-within-requires
 within-requires c κs = search needs
 
--- src/lib.rt:236:5
 returns : tie.Need-returns
 unfolding fileOf
 returns c = chosen true _ _ (c .before .within .ensures) (c .if1 .taken)
 
--- src/lib.rt:236:5
 returns-2 : tie.Need-returns-2
 unfolding fileOf
 returns-2 c = chosen false _ _ (c .before .within .ensures) (c .if1 .left)

@@ -8,16 +8,13 @@ use Rattle.figures.proofs.Suite.new.Reads as reads
 use Rattle.figures.proofs.Suite.new.Lts as lts
 use Rattle.figures.proofs.counts_within.Reads as counts-within-reads
 
--- src/lib.rt:222:12
 counts-within-requires : tie.Need-counts-within-requires
 counts-within-requires c κs = search needs
 
--- src/lib.rt:219:5
 returns : tie.Need-returns
 unfolding suiteOf
 returns c = chosen true _ _ (c .before .counts-within .ensures) (c .if1 .taken)
 
--- src/lib.rt:219:5
 returns-2 : tie.Need-returns-2
 unfolding suiteOf
 returns-2 c = chosen false _ _ (c .before .counts-within .ensures) (c .if1 .left)

@@ -8,16 +8,13 @@ use Rattle.figures.proofs.Table.new.Reads as reads
 use Rattle.figures.proofs.Table.new.Lts as lts
 use Rattle.figures.proofs.rows_within.Reads as rows-within-reads
 
--- src/lib.rt:255:12
 rows-within-requires : tie.Need-rows-within-requires
 rows-within-requires c κs = search needs
 
--- src/lib.rt:252:5
 returns : tie.Need-returns
 unfolding tableOf
 returns c = chosen true _ _ (c .before .before .rows-within .ensures) (c .before .if1 .taken)
 
--- src/lib.rt:252:5
 returns-2 : tie.Need-returns-2
 unfolding tableOf
 returns-2 c = chosen false _ _ (c .before .rows-within .ensures) (c .if1 .left)

@@ -1,0 +1,7 @@
+pub mod Texts
+pub mod Noted
+pub mod Unique
+pub mod Given
+pub mod Either
+pub mod Lengths
+pub mod Filled
