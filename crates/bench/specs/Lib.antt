@@ -2,3 +2,4 @@ pub mod Coverage
 pub mod Sheet
 pub mod Tables
 pub mod Files
+pub mod Longest

@@ -4,6 +4,8 @@ ghost use mathlib.Core.Path.{_≡_};
 ghost use mathlib.Core.Bool.{cond, _&&_};
 ghost use Prim.Native.Nat.{_≤_, _<_};
 ghost use lib.ListN.{length};
+ghost use Rattle.figures.specs.Limits.{mostRequirementRows, mostRuns, mostRequirements};
+ghost use Rattle.bench.specs.Longest.{noteCount};
 ghost use Rattle.rows.specs.Rows.{rowAt};
 ghost use Rattle.rows.specs.Checks.{conditionAt, occurrences};
 ghost use Rattle.truth.specs.Signals.{some};
@@ -29,7 +31,7 @@ use figures::Table;
 
 // Whether one of the marks of row p is set.
 fn any_mark(marks: &[bool; Marks::MANY], p: RowNumber, runs: RunCount) -> bool
-    requires { ⌜ (p .0 < 32) × (runs .0 ≤ 64) ⌝ }
+    requires { ⌜ (p .0 < mostRequirementRows) × (runs .0 ≤ mostRuns) ⌝ }
     ensures { λ r. ⌜ r ≡ some (runs .0) 0 (marked (now (marks .entry)) (p .0)) ⌝ }
 {
     let many = runs.0;
@@ -51,7 +53,7 @@ pub fn note_marks(
     q: RequirementNumber,
     notes: &mut [bool; Notes::MANY],
 )
-    requires { ⌜ (rows .0 ≤ 32) × (runs .0 ≤ 64) × (q .0 < 16) × (length (now notes) ≡ 512) ⌝ }
+    requires { ⌜ (rows .0 ≤ mostRequirementRows) × (runs .0 ≤ mostRuns) × (q .0 < mostRequirements) × (length (now notes) ≡ noteCount) ⌝ }
     ensures { λ _. ⌜ RowNoted (now (marks .entry)) (runs .0) (q .0) (rows .0) (now (notes .entry)) (now (notes .exit)) ⌝ }
 {
     let many = rows.0;
@@ -66,7 +68,7 @@ pub fn note_marks(
 // How many rows requirement q of a file has.
 fn row_count(file: &[u8], q: RequirementNumber) -> RowCount
     requires { ⌜ RequirementsReady (now file) × (q .0 < requirementsIn (now file)) ⌝ }
-    ensures { λ r. ⌜ (r .0 ≡ length (requirementRowsIn form1 (now (file .entry)) (q .0))) × (r .0 ≤ 32) ⌝ }
+    ensures { λ r. ⌜ (r .0 ≡ length (requirementRowsIn form1 (now (file .entry)) (q .0))) × (r .0 ≤ mostRequirementRows) ⌝ }
 {
     let body = suite::requirement_bytes(file, q);
     RowCount(body.len() / Table::ROW_BYTES)
@@ -103,7 +105,7 @@ fn reads_condition(file: &[u8], q: RequirementNumber, p: RowNumber, c: Condition
 
 // Whether row p of requirement q is noted.
 fn is_noted(notes: &[bool; Notes::MANY], q: RequirementNumber, p: RowNumber) -> bool
-    requires { ⌜ (q .0 < 16) × (p .0 < 32) ⌝ }
+    requires { ⌜ (q .0 < mostRequirements) × (p .0 < mostRequirementRows) ⌝ }
     ensures { λ r. ⌜ r ≡ noted (now (notes .entry)) (q .0) (p .0) ⌝ }
 {
     let at = Requirement::ROWS * q.0 + p.0;
@@ -113,7 +115,7 @@ fn is_noted(notes: &[bool; Notes::MANY], q: RequirementNumber, p: RowNumber) -> 
 // How many occurrences requirement q has.
 fn occurrences_of(file: &[u8], q: RequirementNumber) -> usize
     requires { ⌜ RequirementsReady (now file) × (q .0 < requirementsIn (now file)) ⌝ }
-    ensures { λ r. ⌜ (r ≡ length (occurrences (requirementRowsIn form1 (now (file .entry)) (q .0)))) × (r ≤ 32) ⌝ }
+    ensures { λ r. ⌜ (r ≡ length (occurrences (requirementRowsIn form1 (now (file .entry)) (q .0)))) × (r ≤ mostRequirementRows) ⌝ }
 {
     let many = row_count(file, q).0;
     let mut count = 0;
@@ -128,7 +130,7 @@ fn occurrences_of(file: &[u8], q: RequirementNumber) -> usize
 // How many rows of requirement q are noted.
 fn noted_of(file: &[u8], q: RequirementNumber, notes: &[bool; Notes::MANY]) -> usize
     requires { ⌜ RequirementsReady (now file) × (q .0 < requirementsIn (now file)) ⌝ }
-    ensures { λ r. ⌜ (r ≡ size (length (requirementRowsIn form1 (now (file .entry)) (q .0))) (noted (now (notes .entry)) (q .0))) × (r ≤ 32) ⌝ }
+    ensures { λ r. ⌜ (r ≡ size (length (requirementRowsIn form1 (now (file .entry)) (q .0))) (noted (now (notes .entry)) (q .0))) × (r ≤ mostRequirementRows) ⌝ }
 {
     let many = row_count(file, q).0;
     let mut count = 0;
@@ -143,7 +145,7 @@ fn noted_of(file: &[u8], q: RequirementNumber, notes: &[bool; Notes::MANY]) -> u
 // How many occurrences a file's requirements have together.
 pub fn all_occurrences(file: &[u8], requirements: RequirementCount) -> OccurrenceCount
     requires { ⌜ RequirementsReady (now file) × (requirements .0 ≡ requirementsIn (now file)) ⌝ }
-    ensures { λ r. ⌜ (r .0 ≡ sum (requirements .0) (λ q. length (occurrences (requirementRowsIn form1 (now (file .entry)) q)))) × (r .0 ≤ 512) ⌝ }
+    ensures { λ r. ⌜ (r .0 ≡ sum (requirements .0) (λ q. length (occurrences (requirementRowsIn form1 (now (file .entry)) q)))) × (r .0 ≤ noteCount) ⌝ }
 {
     let many = requirements.0;
     let mut total = 0;
@@ -162,7 +164,7 @@ pub fn all_noted(
     notes: &[bool; Notes::MANY],
 ) -> OccurrenceCount
     requires { ⌜ RequirementsReady (now file) × (requirements .0 ≡ requirementsIn (now file)) ⌝ }
-    ensures { λ r. ⌜ (r .0 ≡ sum (requirements .0) (λ q. size (length (requirementRowsIn form1 (now (file .entry)) q)) (noted (now (notes .entry)) q))) × (r .0 ≤ 512) ⌝ }
+    ensures { λ r. ⌜ (r .0 ≡ sum (requirements .0) (λ q. size (length (requirementRowsIn form1 (now (file .entry)) q)) (noted (now (notes .entry)) q))) × (r .0 ≤ noteCount) ⌝ }
 {
     let many = requirements.0;
     let mut total = 0;

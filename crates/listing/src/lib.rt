@@ -4,6 +4,7 @@ ghost use mathlib.Core.Bool.{cond};
 ghost use mathlib.Core.List.{[], _∷_};
 ghost use Prim.Native.Nat.{_+_, _*_, _≤_, _<_};
 ghost use lib.ListN.{length};
+ghost use Rattle.figures.specs.Limits.{mostRequirementRows, mostRuns};
 ghost use Rattle.suite.specs.Layout.{form1, requirementsIn, runsIn};
 ghost use Rattle.suite.specs.Checks.{requirementRowsIn, runWordsIn};
 ghost use Rattle.lines.specs.Lines.{Put};
@@ -74,7 +75,7 @@ fn list_pairs_of(
     out: &mut [u8],
     at: ByteCount,
 ) -> ByteCount
-    requires { ⌜ (o .0 < 100) × (p .0 < 32) × (runs .0 ≤ 64) × (at .0 + 2 * runs .0 ≤ length (now out)) ⌝ }
+    requires { ⌜ (o .0 < 100) × (p .0 < mostRequirementRows) × (runs .0 ≤ mostRuns) × (at .0 + 2 * runs .0 ≤ length (now out)) ⌝ }
     ensures { λ r. ⌜ (r .0 ≡ at .0 + length (inOrder (runs .0) (λ j. cond (marked (now (marks .entry)) (p .0) j) (o .0 ∷ j ∷ []) []))) × (r .0 ≤ at .0 + 2 * runs .0) ⌝ }
     ensures { λ _. ⌜ Put (now (out .entry)) (at .0) (inOrder (runs .0) (λ j. cond (marked (now (marks .entry)) (p .0) j) (o .0 ∷ j ∷ []) [])) (now (out .exit)) ⌝ }
 {
@@ -97,8 +98,8 @@ fn list_pairs(
     out: &mut [u8],
     at: ByteCount,
 ) -> ByteCount
-    requires { ⌜ (length (now rows) ≤ 32) × (runs .0 ≤ 64) × (at .0 + 128 * length (now rows) ≤ length (now out)) ⌝ }
-    ensures { λ r. ⌜ (r .0 ≡ at .0 + length (pairsListed (now (rows .entry)) (runs .0) (marked (now (marks .entry))) pairBytes)) × (r .0 ≤ at .0 + 128 * length (now (rows .entry))) ⌝ }
+    requires { ⌜ (length (now rows) ≤ mostRequirementRows) × (runs .0 ≤ mostRuns) × (at .0 + 2 * mostRuns * length (now rows) ≤ length (now out)) ⌝ }
+    ensures { λ r. ⌜ (r .0 ≡ at .0 + length (pairsListed (now (rows .entry)) (runs .0) (marked (now (marks .entry))) pairBytes)) × (r .0 ≤ at .0 + 2 * mostRuns * length (now (rows .entry))) ⌝ }
     ensures { λ _. ⌜ Put (now (out .entry)) (at .0) (pairsListed (now (rows .entry)) (runs .0) (marked (now (marks .entry))) pairBytes) (now (out .exit)) ⌝ }
 {
     let many = rows::occurrence_count(rows).0;

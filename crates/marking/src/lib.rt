@@ -3,6 +3,8 @@ ghost use mathlib.Core.Path.{_≡_};
 ghost use mathlib.Core.Bool.{cond};
 ghost use Prim.Native.Nat.{_≤_, _<_};
 ghost use lib.ListN.{length};
+ghost use Rattle.figures.specs.Limits.{mostRuns};
+ghost use Rattle.bench.specs.Longest.{markCount};
 ghost use Rattle.truth.specs.Truth.{holds};
 ghost use Rattle.suite.specs.Layout.{form1, runsIn};
 ghost use Rattle.suite.specs.Checks.{runWordsIn};
@@ -31,7 +33,7 @@ fn mark_of(rows: &[[u16; 3]], run: &[u32], p: RowNumber) -> bool
 
 // Marks every row for run j.
 fn mark_run(rows: &[[u16; 3]], run: &[u32], j: RunNumber, marks: &mut [bool; Marks::MANY])
-    requires { ⌜ RowsReady (now rows) × RunReady (now run) × (j .0 < 64) × (length (now marks) ≡ 2048) ⌝ }
+    requires { ⌜ RowsReady (now rows) × RunReady (now run) × (j .0 < mostRuns) × (length (now marks) ≡ markCount) ⌝ }
     ensures { λ _. ⌜ ColumnMarked (now (rows .entry)) (now (run .entry)) (j .0) (now (marks .entry)) (now (marks .exit)) ⌝ }
 {
     let column = j.0;
@@ -44,7 +46,7 @@ fn mark_run(rows: &[[u16; 3]], run: &[u32], j: RunNumber, marks: &mut [bool; Mar
 
 // Marks every row for run j of a file.
 fn mark_run_of(file: &[u8], rows: &[[u16; 3]], j: RunNumber, marks: &mut [bool; Marks::MANY])
-    requires { ⌜ RowsReady (now rows) × RunsReady (now file) × (j .0 < runsIn (now file)) × (length (now marks) ≡ 2048) ⌝ }
+    requires { ⌜ RowsReady (now rows) × RunsReady (now file) × (j .0 < runsIn (now file)) × (length (now marks) ≡ markCount) ⌝ }
     ensures { λ _. ⌜ ColumnMarked (now (rows .entry)) (runWordsIn form1 (now (file .entry)) (j .0)) (j .0) (now (marks .entry)) (now (marks .exit)) ⌝ }
 {
     let body = suite::run_bytes(file, j);
@@ -56,7 +58,7 @@ fn mark_run_of(file: &[u8], rows: &[[u16; 3]], j: RunNumber, marks: &mut [bool; 
 // The marks of a requirement's rows for the runs of a file.
 pub fn marks_of(file: &[u8], rows: &[[u16; 3]], runs: RunCount) -> [bool; Marks::MANY]
     requires { ⌜ RowsReady (now rows) × RunsReady (now file) × (runs .0 ≡ runsIn (now file)) ⌝ }
-    ensures { λ r. ⌜ (2048 ≡ length r) × Marked (now (rows .entry)) (runWordsIn form1 (now (file .entry))) (runs .0) r ⌝ }
+    ensures { λ r. ⌜ (markCount ≡ length r) × Marked (now (rows .entry)) (runWordsIn form1 (now (file .entry))) (runs .0) r ⌝ }
 {
     let many = runs.0;
     let mut marks = [false; Marks::MANY];

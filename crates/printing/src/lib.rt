@@ -4,6 +4,8 @@ ghost use mathlib.Core.Bool.{cond};
 ghost use mathlib.Core.List.{[], _∷_};
 ghost use Prim.Native.Nat.{_+_, _*_, _≤_, _<_};
 ghost use lib.ListN.{length};
+ghost use Rattle.figures.specs.Limits.{mostRequirementRows, mostRuns};
+ghost use Rattle.bench.specs.Longest.{suiteLineMost, reqLineMost, covLineMost, answerMost, condLineMost, totalLineMost, covLinesMost};
 ghost use Rattle.lines.specs.Lines.{line, Put};
 ghost use Rattle.rows.specs.Checks.{occurrences};
 ghost use Rattle.bench.specs.Coverage.{inOrder, rowOfOccurrence};
@@ -26,7 +28,7 @@ use rows::RowFound;
 
 // Whether the pair of the occurrence in row p and run j is marked.
 pub fn is_marked(marks: &[bool; Marks::MANY], p: RowNumber, j: RunNumber) -> bool
-    requires { ⌜ (p .0 < 32) × (j .0 < 64) ⌝ }
+    requires { ⌜ (p .0 < mostRequirementRows) × (j .0 < mostRuns) ⌝ }
     ensures { λ r. ⌜ r ≡ marked (now (marks .entry)) (p .0) (j .0) ⌝ }
 {
     let at = Suite::RUNS * p.0 + j.0;
@@ -50,8 +52,8 @@ pub fn put_suite_line(
     out: &mut [u8],
     at: ByteCount,
 ) -> ByteCount
-    requires { ⌜ (requirements .0 < 100) × (runs .0 < 100) × (at .0 + 12 ≤ length (now out)) ⌝ }
-    ensures { λ r. ⌜ (r .0 ≡ at .0 + length (suiteLine (requirements .0) (runs .0))) × (r .0 ≤ at .0 + 12) ⌝ }
+    requires { ⌜ (requirements .0 < 100) × (runs .0 < 100) × (at .0 + suiteLineMost ≤ length (now out)) ⌝ }
+    ensures { λ r. ⌜ (r .0 ≡ at .0 + length (suiteLine (requirements .0) (runs .0))) × (r .0 ≤ at .0 + suiteLineMost) ⌝ }
     ensures { λ _. ⌜ Put (now (out .entry)) (at .0) (suiteLine (requirements .0) (runs .0)) (now (out .exit)) ⌝ }
 {
     let word = lines::put_word(b"suite", b' ', out, at);
@@ -66,8 +68,8 @@ pub fn put_req_line(
     out: &mut [u8],
     at: ByteCount,
 ) -> ByteCount
-    requires { ⌜ (q .0 < 100) × (many .0 < 100) × (held .0 < 100) × (at .0 + 22 ≤ length (now out)) ⌝ }
-    ensures { λ r. ⌜ (r .0 ≡ at .0 + length (reqLine (q .0) (many .0) (held .0))) × (r .0 ≤ at .0 + 22) ⌝ }
+    requires { ⌜ (q .0 < 100) × (many .0 < 100) × (held .0 < 100) × (at .0 + reqLineMost ≤ length (now out)) ⌝ }
+    ensures { λ r. ⌜ (r .0 ≡ at .0 + length (reqLine (q .0) (many .0) (held .0))) × (r .0 ≤ at .0 + reqLineMost) ⌝ }
     ensures { λ _. ⌜ Put (now (out .entry)) (at .0) (reqLine (q .0) (many .0) (held .0)) (now (out .exit)) ⌝ }
 {
     let req = lines::put_word(b"req", b' ', out, at);
@@ -85,8 +87,8 @@ fn put_cov_line(
     out: &mut [u8],
     at: ByteCount,
 ) -> ByteCount
-    requires { ⌜ (q .0 < 100) × (o .0 < 100) × (j .0 < 100) × (at .0 + 13 ≤ length (now out)) ⌝ }
-    ensures { λ r. ⌜ (r .0 ≡ at .0 + length (covLine (q .0) (o .0) (j .0))) × (r .0 ≤ at .0 + 13) ⌝ }
+    requires { ⌜ (q .0 < 100) × (o .0 < 100) × (j .0 < 100) × (at .0 + covLineMost ≤ length (now out)) ⌝ }
+    ensures { λ r. ⌜ (r .0 ≡ at .0 + length (covLine (q .0) (o .0) (j .0))) × (r .0 ≤ at .0 + covLineMost) ⌝ }
     ensures { λ _. ⌜ Put (now (out .entry)) (at .0) (covLine (q .0) (o .0) (j .0)) (now (out .exit)) ⌝ }
 {
     let cov = lines::put_word(b"cov", b' ', out, at);
@@ -96,8 +98,8 @@ fn put_cov_line(
 }
 
 fn put_answer(answer: ConditionAnswer, out: &mut [u8], at: ByteCount) -> ByteCount
-    requires { ⌜ at .0 + 7 ≤ length (now out) ⌝ }
-    ensures { λ r. ⌜ (r .0 ≡ at .0 + length (line (answerWord answer ∷ []))) × (r .0 ≤ at .0 + 7) ⌝ }
+    requires { ⌜ at .0 + answerMost ≤ length (now out) ⌝ }
+    ensures { λ r. ⌜ (r .0 ≡ at .0 + length (line (answerWord answer ∷ []))) × (r .0 ≤ at .0 + answerMost) ⌝ }
     ensures { λ _. ⌜ Put (now (out .entry)) (at .0) (line (answerWord answer ∷ [])) (now (out .exit)) ⌝ }
 {
     match answer {
@@ -113,8 +115,8 @@ pub fn put_cond_line(
     out: &mut [u8],
     at: ByteCount,
 ) -> ByteCount
-    requires { ⌜ (c .0 < 100) × (at .0 + 15 ≤ length (now out)) ⌝ }
-    ensures { λ r. ⌜ (r .0 ≡ at .0 + length (condLine (c .0) answer)) × (r .0 ≤ at .0 + 15) ⌝ }
+    requires { ⌜ (c .0 < 100) × (at .0 + condLineMost ≤ length (now out)) ⌝ }
+    ensures { λ r. ⌜ (r .0 ≡ at .0 + length (condLine (c .0) answer)) × (r .0 ≤ at .0 + condLineMost) ⌝ }
     ensures { λ _. ⌜ Put (now (out .entry)) (at .0) (condLine (c .0) answer) (now (out .exit)) ⌝ }
 {
     let cond = lines::put_word(b"cond", b' ', out, at);
@@ -128,8 +130,8 @@ pub fn put_total_line(
     out: &mut [u8],
     at: ByteCount,
 ) -> ByteCount
-    requires { ⌜ (some .0 < 1000) × (all .0 < 1000) × (at .0 + 14 ≤ length (now out)) ⌝ }
-    ensures { λ r. ⌜ (r .0 ≡ at .0 + length (totalLine (some .0) (all .0))) × (r .0 ≤ at .0 + 14) ⌝ }
+    requires { ⌜ (some .0 < 1000) × (all .0 < 1000) × (at .0 + totalLineMost ≤ length (now out)) ⌝ }
+    ensures { λ r. ⌜ (r .0 ≡ at .0 + length (totalLine (some .0) (all .0))) × (r .0 ≤ at .0 + totalLineMost) ⌝ }
     ensures { λ _. ⌜ Put (now (out .entry)) (at .0) (totalLine (some .0) (all .0)) (now (out .exit)) ⌝ }
 {
     let total = lines::put_word(b"total", b' ', out, at);
@@ -146,8 +148,8 @@ fn put_cov_if(
     out: &mut [u8],
     at: ByteCount,
 ) -> ByteCount
-    requires { ⌜ (q .0 < 100) × (o .0 < 100) × (j .0 < 100) × (at .0 + 13 ≤ length (now out)) ⌝ }
-    ensures { λ r. ⌜ (r .0 ≡ at .0 + length (cond mark (covLine (q .0) (o .0) (j .0)) [])) × (r .0 ≤ at .0 + 13) ⌝ }
+    requires { ⌜ (q .0 < 100) × (o .0 < 100) × (j .0 < 100) × (at .0 + covLineMost ≤ length (now out)) ⌝ }
+    ensures { λ r. ⌜ (r .0 ≡ at .0 + length (cond mark (covLine (q .0) (o .0) (j .0)) [])) × (r .0 ≤ at .0 + covLineMost) ⌝ }
     ensures { λ _. ⌜ Put (now (out .entry)) (at .0) (cond mark (covLine (q .0) (o .0) (j .0)) []) (now (out .exit)) ⌝ }
 {
     if mark {
@@ -167,8 +169,8 @@ fn put_covs_of(
     out: &mut [u8],
     at: ByteCount,
 ) -> ByteCount
-    requires { ⌜ (q .0 < 100) × (o .0 < 100) × (p .0 < 32) × (runs .0 ≤ 64) × (at .0 + 13 * runs .0 ≤ length (now out)) ⌝ }
-    ensures { λ r. ⌜ (r .0 ≡ at .0 + length (inOrder (runs .0) (λ j. cond (marked (now (marks .entry)) (p .0) j) (covLine (q .0) (o .0) j) []))) × (r .0 ≤ at .0 + 13 * runs .0) ⌝ }
+    requires { ⌜ (q .0 < 100) × (o .0 < 100) × (p .0 < mostRequirementRows) × (runs .0 ≤ mostRuns) × (at .0 + covLineMost * runs .0 ≤ length (now out)) ⌝ }
+    ensures { λ r. ⌜ (r .0 ≡ at .0 + length (inOrder (runs .0) (λ j. cond (marked (now (marks .entry)) (p .0) j) (covLine (q .0) (o .0) j) []))) × (r .0 ≤ at .0 + covLineMost * runs .0) ⌝ }
     ensures { λ _. ⌜ Put (now (out .entry)) (at .0) (inOrder (runs .0) (λ j. cond (marked (now (marks .entry)) (p .0) j) (covLine (q .0) (o .0) j) [])) (now (out .exit)) ⌝ }
 {
     let many = runs.0;
@@ -191,8 +193,8 @@ pub fn put_covs(
     out: &mut [u8],
     at: ByteCount,
 ) -> ByteCount
-    requires { ⌜ (q .0 < 100) × (length (now rows) ≤ 32) × (runs .0 ≤ 64) × (at .0 + 832 * length (now rows) ≤ length (now out)) ⌝ }
-    ensures { λ r. ⌜ (r .0 ≡ at .0 + length (covLines (now (rows .entry)) (runs .0) (marked (now (marks .entry))) (q .0))) × (r .0 ≤ at .0 + 832 * length (now (rows .entry))) ⌝ }
+    requires { ⌜ (q .0 < 100) × (length (now rows) ≤ mostRequirementRows) × (runs .0 ≤ mostRuns) × (at .0 + covLinesMost * length (now rows) ≤ length (now out)) ⌝ }
+    ensures { λ r. ⌜ (r .0 ≡ at .0 + length (covLines (now (rows .entry)) (runs .0) (marked (now (marks .entry))) (q .0))) × (r .0 ≤ at .0 + covLinesMost * length (now (rows .entry))) ⌝ }
     ensures { λ _. ⌜ Put (now (out .entry)) (at .0) (covLines (now (rows .entry)) (runs .0) (marked (now (marks .entry))) (q .0)) (now (out .exit)) ⌝ }
 {
     let many = rows::occurrence_count(rows).0;

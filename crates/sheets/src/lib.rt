@@ -3,6 +3,8 @@ ghost use mathlib.Core.Path.{_≡_};
 ghost use mathlib.Core.Bool.{_&&_};
 ghost use Prim.Native.Nat.{_+_, _*_, _≤_, _<_};
 ghost use lib.ListN.{length};
+ghost use Rattle.figures.specs.Limits.{mostRequirements};
+ghost use Rattle.bench.specs.Longest.{noteCount, condLineMost, blockMost, sheetMost};
 ghost use Rattle.lines.specs.Lines.{Put};
 ghost use Rattle.suite.specs.Layout.{form1, conditionsIn, requirementsIn, runsIn};
 ghost use Rattle.suite.specs.Checks.{requirementRowsIn, runWordsIn};
@@ -62,8 +64,8 @@ fn put_block_of(
     out: &mut [u8],
     at: ByteCount,
 ) -> ByteCount
-    requires { ⌜ RowsReady (now rows) × RunsReady (now theirs) × (runs .0 ≡ runsIn (now theirs)) × (q .0 < 16) × (length (now notes) ≡ 512) × (at .0 + 26646 ≤ length (now out)) ⌝ }
-    ensures { λ r. ⌜ (r .0 ≡ at .0 + length (blockFrom (now (rows .entry)) (runs .0) (runWordsIn form1 (now (theirs .entry))) (q .0))) × (r .0 ≤ at .0 + 26646) ⌝ }
+    requires { ⌜ RowsReady (now rows) × RunsReady (now theirs) × (runs .0 ≡ runsIn (now theirs)) × (q .0 < mostRequirements) × (length (now notes) ≡ noteCount) × (at .0 + blockMost ≤ length (now out)) ⌝ }
+    ensures { λ r. ⌜ (r .0 ≡ at .0 + length (blockFrom (now (rows .entry)) (runs .0) (runWordsIn form1 (now (theirs .entry))) (q .0))) × (r .0 ≤ at .0 + blockMost) ⌝ }
     ensures { λ _. ⌜ Put (now (out .entry)) (at .0) (blockFrom (now (rows .entry)) (runs .0) (runWordsIn form1 (now (theirs .entry))) (q .0)) (now (out .exit)) ⌝ }
     ensures { λ _. ⌜ RequirementNoted (now (rows .entry)) (runs .0) (runWordsIn form1 (now (theirs .entry))) (q .0) (now (notes .entry)) (now (notes .exit)) ⌝ }
 {
@@ -84,8 +86,8 @@ fn put_block(
     out: &mut [u8],
     at: ByteCount,
 ) -> ByteCount
-    requires { ⌜ RequirementsReady (now ours) × RunsReady (now theirs) × (runs .0 ≡ runsIn (now theirs)) × (q .0 < requirementsIn (now ours)) × (length (now notes) ≡ 512) × (at .0 + 26646 ≤ length (now out)) ⌝ }
-    ensures { λ r. ⌜ (r .0 ≡ at .0 + length (blockOf (benchOf (now (ours .entry)) (now (theirs .entry))) (q .0))) × (r .0 ≤ at .0 + 26646) ⌝ }
+    requires { ⌜ RequirementsReady (now ours) × RunsReady (now theirs) × (runs .0 ≡ runsIn (now theirs)) × (q .0 < requirementsIn (now ours)) × (length (now notes) ≡ noteCount) × (at .0 + blockMost ≤ length (now out)) ⌝ }
+    ensures { λ r. ⌜ (r .0 ≡ at .0 + length (blockOf (benchOf (now (ours .entry)) (now (theirs .entry))) (q .0))) × (r .0 ≤ at .0 + blockMost) ⌝ }
     ensures { λ _. ⌜ Put (now (out .entry)) (at .0) (blockOf (benchOf (now (ours .entry)) (now (theirs .entry))) (q .0)) (now (out .exit)) ⌝ }
     ensures { λ _. ⌜ RequirementNoted (requirementRowsIn form1 (now (ours .entry)) (q .0)) (runsIn (now (theirs .entry))) (runWordsIn form1 (now (theirs .entry))) (q .0) (now (notes .entry)) (now (notes .exit)) ⌝ }
 {
@@ -105,8 +107,8 @@ fn put_blocks(
     out: &mut [u8],
     at: ByteCount,
 ) -> ByteCount
-    requires { ⌜ RequirementsReady (now ours) × RunsReady (now theirs) × (requirements .0 ≡ requirementsIn (now ours)) × (runs .0 ≡ runsIn (now theirs)) × (length (now notes) ≡ 512) × (at .0 + 26646 * requirements .0 ≤ length (now out)) ⌝ }
-    ensures { λ r. ⌜ (r .0 ≡ at .0 + length (inOrder (requirements .0) (blockOf (benchOf (now (ours .entry)) (now (theirs .entry)))))) × (r .0 ≤ at .0 + 26646 * requirements .0) ⌝ }
+    requires { ⌜ RequirementsReady (now ours) × RunsReady (now theirs) × (requirements .0 ≡ requirementsIn (now ours)) × (runs .0 ≡ runsIn (now theirs)) × (length (now notes) ≡ noteCount) × (at .0 + blockMost * requirements .0 ≤ length (now out)) ⌝ }
+    ensures { λ r. ⌜ (r .0 ≡ at .0 + length (inOrder (requirements .0) (blockOf (benchOf (now (ours .entry)) (now (theirs .entry)))))) × (r .0 ≤ at .0 + blockMost * requirements .0) ⌝ }
     ensures { λ _. ⌜ Put (now (out .entry)) (at .0) (inOrder (requirements .0) (blockOf (benchOf (now (ours .entry)) (now (theirs .entry))))) (now (out .exit)) ⌝ }
     ensures { λ _. ⌜ SuiteNoted (benchOf (now (ours .entry)) (now (theirs .entry))) (requirements .0) (now (notes .exit)) ⌝ }
 {
@@ -137,8 +139,8 @@ fn put_conds(
     out: &mut [u8],
     at: ByteCount,
 ) -> ByteCount
-    requires { ⌜ RequirementsReady (now ours) × (conditions .0 ≡ conditionsIn (now ours)) × (requirements .0 ≡ requirementsIn (now ours)) × (at .0 + 15 * conditions .0 ≤ length (now out)) ⌝ }
-    ensures { λ r. ⌜ (r .0 ≡ at .0 + length (inOrder (conditions .0) (λ c. condLine c (answerBy (conditionRead (benchOf (now (ours .entry)) (now (ours .entry))) c) (some (requirementsIn (now (ours .entry))) 0 (λ q. some (length (requirementRowsIn form1 (now (ours .entry)) q)) 0 (λ p. readsCondition (benchOf (now (ours .entry)) (now (ours .entry))) c q p && noted (now (notes .entry)) q p))))))) × (r .0 ≤ at .0 + 15 * conditions .0) ⌝ }
+    requires { ⌜ RequirementsReady (now ours) × (conditions .0 ≡ conditionsIn (now ours)) × (requirements .0 ≡ requirementsIn (now ours)) × (at .0 + condLineMost * conditions .0 ≤ length (now out)) ⌝ }
+    ensures { λ r. ⌜ (r .0 ≡ at .0 + length (inOrder (conditions .0) (λ c. condLine c (answerBy (conditionRead (benchOf (now (ours .entry)) (now (ours .entry))) c) (some (requirementsIn (now (ours .entry))) 0 (λ q. some (length (requirementRowsIn form1 (now (ours .entry)) q)) 0 (λ p. readsCondition (benchOf (now (ours .entry)) (now (ours .entry))) c q p && noted (now (notes .entry)) q p))))))) × (r .0 ≤ at .0 + condLineMost * conditions .0) ⌝ }
     ensures { λ _. ⌜ Put (now (out .entry)) (at .0) (inOrder (conditions .0) (λ c. condLine c (answerBy (conditionRead (benchOf (now (ours .entry)) (now (ours .entry))) c) (some (requirementsIn (now (ours .entry))) 0 (λ q. some (length (requirementRowsIn form1 (now (ours .entry)) q)) 0 (λ p. readsCondition (benchOf (now (ours .entry)) (now (ours .entry))) c q p && noted (now (notes .entry)) q p)))))) (now (out .exit)) ⌝ }
 {
     let many = conditions.0;
@@ -161,7 +163,7 @@ fn put_sheet(
     runs: RunCount,
     out: &mut [u8],
 ) -> ByteCount
-    requires { ⌜ RequirementsReady (now ours) × RunsReady (now theirs) × (conditions .0 ≡ conditionsIn (now ours)) × (requirements .0 ≡ requirementsIn (now ours)) × (runs .0 ≡ runsIn (now theirs)) × (426842 ≤ length (now out)) ⌝ }
+    requires { ⌜ RequirementsReady (now ours) × RunsReady (now theirs) × (conditions .0 ≡ conditionsIn (now ours)) × (requirements .0 ≡ requirementsIn (now ours)) × (runs .0 ≡ runsIn (now theirs)) × (sheetMost ≤ length (now out)) ⌝ }
     ensures { λ r. ⌜ r .0 ≡ length (sheetText (benchOf (now (ours .entry)) (now (theirs .entry)))) ⌝ }
     ensures { λ _. ⌜ Put (now (out .entry)) 0 (sheetText (benchOf (now (ours .entry)) (now (theirs .entry)))) (now (out .exit)) ⌝ }
 {
@@ -176,7 +178,7 @@ fn put_sheet(
 
 // The program's whole output for a file: the sheet, or the line of the first refusal.
 pub fn put_page(file: &[u8], out: &mut [u8]) -> ByteCount
-    requires { ⌜ 426842 ≤ length (now out) ⌝ }
+    requires { ⌜ sheetMost ≤ length (now out) ⌝ }
     ensures { λ r. ⌜ r .0 ≡ length (pageText (now (file .entry))) ⌝ }
     ensures { λ _. ⌜ Put (now (out .entry)) 0 (pageText (now (file .entry))) (now (out .exit)) ⌝ }
     ensures { λ r. ⌜ Counts (r .0) (now (out .exit)) ⌝ }
@@ -196,7 +198,7 @@ pub fn put_page(file: &[u8], out: &mut [u8]) -> ByteCount
 
 // Room for any page. The `ensures` gives only the length, which lending the array asks for.
 pub fn blank() -> [u8; Longest::SHEET]
-    ensures { λ r. ⌜ 426842 ≡ length r ⌝ }
+    ensures { λ r. ⌜ sheetMost ≡ length r ⌝ }
 {
     [0; Longest::SHEET]
 }

@@ -1,9 +1,10 @@
+-- `figures::counts_within` meets its contract: it is the three tests of `within`.
+-- Assumes nothing.
 use borrow.Author.Needs.{needs}
+use mathlib.Core.Path.{ap₂}
+use mathlib.Core.Bool.{_&&_}
 use Rattle.figures.proofs.counts_within.Statement.{statement}
 use Rattle.figures.proofs.counts_within.Tie as tie
-use Rattle.figures.proofs.counts_within.Reads as reads
-use Rattle.figures.proofs.counts_within.Lts as lts
-use Rattle.figures.proofs.within.Reads as within-reads
 
 within-requires : tie.Need-within-requires
 within-requires c κs = search needs
@@ -15,7 +16,7 @@ within-requires-3 : tie.Need-within-requires-3
 within-requires-3 c κs = search needs
 
 returns : tie.Need-returns
-returns c = cc
+returns c = ap₂ _&&_ (c .before .before .within .ensures) (ap₂ _&&_ (c .before .within2 .ensures) (c .within3 .ensures))
 
 pub counts-within-spec : {M : Type 1} → statement M
 counts-within-spec =

@@ -1,9 +1,8 @@
+-- `figures::rows_within` meets its contract: the bytes are whole rows, as many as the limits allow.
+-- Assumes nothing.
 use borrow.Author.Needs.{needs}
 use Rattle.figures.proofs.rows_within.Statement.{statement}
 use Rattle.figures.proofs.rows_within.Tie as tie
-use Rattle.figures.proofs.rows_within.Reads as reads
-use Rattle.figures.proofs.rows_within.Lts as lts
-use Rattle.figures.proofs.within.Reads as within-reads
 
 within-requires : tie.Need-within-requires
 within-requires c κs = search needs

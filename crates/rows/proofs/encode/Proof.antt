@@ -1,3 +1,5 @@
+-- `rows::encode` meets its contract: the rows passed stand at the front of what was lent, and what stood there after them.
+-- Assumes nothing.
 use borrow.Author.Needs.{needs}
 use native.Mathlib.Omega.{arith}
 use mathlib.Core.Bool.{true}

@@ -1,3 +1,5 @@
+-- `rows::fields_of` meets its contract: each range of kinds has the fields of its line in document 01.
+-- Assumes nothing.
 use mathlib.Core.Path.{_≡_, refl}
 use native.Mathlib.Omega.{arith}
 use Rattle.rows.specs.declared.Fields.the-variants.{Neither, OneRow, TwoRows}
@@ -6,8 +8,6 @@ use Rattle.rows.proofs.KindNumbers.{in-range, unknown}
 use borrow.Author.Needs.{needs}
 use Rattle.rows.proofs.fields_of.Statement.{statement}
 use Rattle.rows.proofs.fields_of.Tie as tie
-use Rattle.rows.proofs.fields_of.Reads as reads
-use Rattle.rows.proofs.fields_of.Lts as lts
 
 returns : tie.Need-returns
 returns c = search needs

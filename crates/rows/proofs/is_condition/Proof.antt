@@ -1,3 +1,5 @@
+-- `rows::is_condition` meets its contract: past the last row nothing is a condition.
+-- Assumes nothing.
 use native.Mathlib.Omega.{arith}
 use mathlib.Core.List.{[]}
 use lib.ListN.{List·getD-eq-default}
@@ -5,8 +7,6 @@ use Rattle.rows.specs.Rows.{Row}
 use borrow.Author.Needs.{needs}
 use Rattle.rows.proofs.is_condition.Statement.{statement}
 use Rattle.rows.proofs.is_condition.Tie as tie
-use Rattle.rows.proofs.is_condition.Reads as reads
-use Rattle.rows.proofs.is_condition.Lts as lts
 
 mul-result : tie.Need-mul-result
 mul-result c = search needs

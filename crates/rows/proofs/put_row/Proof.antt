@@ -1,11 +1,11 @@
+-- `rows::put_row` meets its contract: three stores at the front.
+-- Assumes nothing.
 use native.Mathlib.Omega.{arith}
 use lib.Seq.{lt-length-set}
 use Rattle.rows.proofs.Bytes.{set-front}
 use borrow.Author.Needs.{needs}
 use Rattle.rows.proofs.put_row.Statement.{statement}
 use Rattle.rows.proofs.put_row.Tie as tie
-use Rattle.rows.proofs.put_row.Reads as reads
-use Rattle.rows.proofs.put_row.Lts as lts
 
 array-read-out : tie.Need-array-read-out
 array-read-out c = search needs

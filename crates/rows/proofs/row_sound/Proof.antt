@@ -1,3 +1,5 @@
+-- `rows::row_sound` meets its contract: the fields are tested as the kind has them.
+-- Assumes nothing.
 use mathlib.Core.Path.{_≡_}
 use Prim.Native.Nat.{ℕ}
 use Rattle.rows.specs.declared.Fields.{Fields}
@@ -7,9 +9,6 @@ use Rattle.figures.proofs.Known.{known}
 use borrow.Author.Needs.{needs}
 use Rattle.rows.proofs.row_sound.Statement.{statement}
 use Rattle.rows.proofs.row_sound.Tie as tie
-use Rattle.rows.proofs.row_sound.Reads as reads
-use Rattle.rows.proofs.row_sound.Lts as lts
-use Rattle.rows.proofs.fields_of.Reads as fields-of-reads
 
 -- what `fields_of` gave, and which arm it led to
 by : (conditions r : ℕ) (row : Row) {f g x : Fields} → f ≡ g → f ≡ x → fieldsSound x conditions r (first row) (second row) ≡ fieldsSound g conditions r (first row) (second row)

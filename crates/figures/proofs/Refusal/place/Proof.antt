@@ -1,10 +1,8 @@
+-- `figures::Refusal::place` meets its contract: each refusal has the place of its line in document 01.
+-- Assumes nothing.
 use borrow.Author.Needs.{needs}
 use Rattle.figures.proofs.Refusal.place.Statement.{statement}
 use Rattle.figures.proofs.Refusal.place.Tie as tie
-use Rattle.figures.proofs.Refusal.place.Reads as reads
-use Rattle.figures.proofs.Refusal.place.Lts as lts
-use Rattle.figures.proofs.RowPlace.place.Reads as RowPlace-place-reads
-use Rattle.figures.proofs.StepPlace.place.Reads as StepPlace-place-reads
 
 enum-told : tie.Need-enum-told
 enum-told c = search needs

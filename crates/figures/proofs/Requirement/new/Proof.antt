@@ -1,12 +1,11 @@
+-- `figures::Requirement::new` meets its contract: it makes the requirement where its rows are within the limits, else refuses by 7.
+-- Assumes nothing.
 use Rattle.figures.specs.Limits.{requirementOf}
 use mathlib.Core.Bool.{true, false}
 use Rattle.figures.proofs.Known.{chosen}
 use borrow.Author.Needs.{needs}
 use Rattle.figures.proofs.Requirement.new.Statement.{statement}
 use Rattle.figures.proofs.Requirement.new.Tie as tie
-use Rattle.figures.proofs.Requirement.new.Reads as reads
-use Rattle.figures.proofs.Requirement.new.Lts as lts
-use Rattle.figures.proofs.rows_within.Reads as rows-within-reads
 
 rows-within-requires : tie.Need-rows-within-requires
 rows-within-requires c κs = search needs

@@ -1,8 +1,8 @@
+-- `figures::RowPlace::place` meets its contract: a lone row by its number, a row of a file by its offset.
+-- Assumes nothing.
 use borrow.Author.Needs.{needs}
 use Rattle.figures.proofs.RowPlace.place.Statement.{statement}
 use Rattle.figures.proofs.RowPlace.place.Tie as tie
-use Rattle.figures.proofs.RowPlace.place.Reads as reads
-use Rattle.figures.proofs.RowPlace.place.Lts as lts
 
 enum-known-self : tie.Need-enum-known-self
 enum-known-self c = search needs

@@ -1,12 +1,11 @@
+-- `figures::Run::new` meets its contract: it makes the run where its steps are within the limits, else refuses by 10.
+-- Assumes nothing.
 use Rattle.figures.specs.Limits.{runOf}
 use mathlib.Core.Bool.{true, false}
 use Rattle.figures.proofs.Known.{chosen}
 use borrow.Author.Needs.{needs}
 use Rattle.figures.proofs.Run.new.Statement.{statement}
 use Rattle.figures.proofs.Run.new.Tie as tie
-use Rattle.figures.proofs.Run.new.Reads as reads
-use Rattle.figures.proofs.Run.new.Lts as lts
-use Rattle.figures.proofs.within.Reads as within-reads
 
 within-requires : tie.Need-within-requires
 within-requires c κs = search needs

@@ -1,8 +1,8 @@
+-- `figures::StepPlace::place` meets its contract: a lone step by its number, a word of a file by its offset.
+-- Assumes nothing.
 use borrow.Author.Needs.{needs}
 use Rattle.figures.proofs.StepPlace.place.Statement.{statement}
 use Rattle.figures.proofs.StepPlace.place.Tie as tie
-use Rattle.figures.proofs.StepPlace.place.Reads as reads
-use Rattle.figures.proofs.StepPlace.place.Lts as lts
 
 enum-known-self : tie.Need-enum-known-self
 enum-known-self c = search needs

@@ -1,12 +1,11 @@
+-- `figures::Suite::file` meets its contract: it passes where the bytes are within the limits, else refuses by 1.
+-- Assumes nothing.
 use Rattle.figures.specs.Limits.{fileOf}
 use mathlib.Core.Bool.{true, false}
 use Rattle.figures.proofs.Known.{chosen}
 use borrow.Author.Needs.{needs}
 use Rattle.figures.proofs.Suite.file.Statement.{statement}
 use Rattle.figures.proofs.Suite.file.Tie as tie
-use Rattle.figures.proofs.Suite.file.Reads as reads
-use Rattle.figures.proofs.Suite.file.Lts as lts
-use Rattle.figures.proofs.within.Reads as within-reads
 
 within-requires : tie.Need-within-requires
 within-requires c κs = search needs

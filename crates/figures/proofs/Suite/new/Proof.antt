@@ -1,12 +1,11 @@
+-- `figures::Suite::new` meets its contract: it makes the suite where its counts are within the limits, else refuses by 3.
+-- Assumes nothing.
 use Rattle.figures.specs.Limits.{suiteOf}
 use mathlib.Core.Bool.{true, false}
 use Rattle.figures.proofs.Known.{chosen}
 use borrow.Author.Needs.{needs}
 use Rattle.figures.proofs.Suite.new.Statement.{statement}
 use Rattle.figures.proofs.Suite.new.Tie as tie
-use Rattle.figures.proofs.Suite.new.Reads as reads
-use Rattle.figures.proofs.Suite.new.Lts as lts
-use Rattle.figures.proofs.counts_within.Reads as counts-within-reads
 
 counts-within-requires : tie.Need-counts-within-requires
 counts-within-requires c κs = search needs
