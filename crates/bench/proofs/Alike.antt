@@ -9,8 +9,8 @@ use lib.ListN.{length}
 use Rattle.figures.specs.Numbers.{below}
 use Rattle.rows.specs.Rows.{Row}
 use Rattle.rows.specs.Checks.{conditionAt, occurrences}
-use Rattle.rows.proofs.Occurring.{occurrence-there, occurrence-condition}
-use Rattle.truth.specs.Signals.{some}
+use Rattle.row_laws.proofs.Occurring.{occurrence-there, occurrence-condition}
+use Rattle.signals.specs.Signals.{some}
 use Rattle.bench.specs.Coverage.{sum, inOrder, rowOfOccurrence, pairsListed}
 
 pub order-same : (m : ℕ) {f g : ℕ → List ℕ} → ((k : ℕ) → k < m → f k ≡ g k) → inOrder m f ≡ inOrder m g

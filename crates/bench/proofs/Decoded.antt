@@ -5,13 +5,13 @@ use mathlib.Core.List.{List}
 use Prim.Native.Nat.{ℕ, _/_, _≤_, _<_}
 use native.Mathlib.Omega.{arith}
 use lib.ListN.{length, take}
-use Rattle.figures.specs.Limits.{rowBytes, mostTableRows}
-use Rattle.figures.proofs.Padded.{inside, front, front-length}
+use Rattle.lengths.specs.Lengths.{rowBytes, mostTableRows}
+use Rattle.laws.proofs.Padded.{inside, front, front-length}
 use Rattle.rows.specs.Rows.{Row, row}
-use Rattle.rows.specs.Codec.{rowOf, rowsOf, padded}
-use Rattle.rows.proofs.Bytes.{length-rowsOf}
-use Rattle.suite.specs.Layout.{form1, requirementsIn, bodyIn}
-use Rattle.suite.specs.Checks.{requirementRowsIn}
+use Rattle.codec.specs.Codec.{rowOf, rowsOf, padded}
+use Rattle.codec.proofs.Bytes.{length-rowsOf}
+use Rattle.layout.specs.Layout.{form1, requirementsIn, bodyIn}
+use Rattle.layout.specs.Checks.{requirementRowsIn}
 use Rattle.bench.specs.Files.{RowsReady, RequirementsReady}
 
 module _

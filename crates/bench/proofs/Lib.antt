@@ -6,3 +6,4 @@ pub mod Same
 pub mod Cells
 pub mod Ready
 pub mod Decoded
+pub mod Loops

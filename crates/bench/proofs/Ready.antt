@@ -5,21 +5,21 @@ use mathlib.Core.List.{List}
 use Prim.Native.Nat.{ℕ, _+_, _*_, _<_}
 use native.Mathlib.Omega.{arith}
 use lib.ListN.{length}
-use Rattle.figures.specs.declared.Suite.{Suite}
+use Rattle.limits.specs.declared.Suite.{Suite}
 use Rattle.figures.specs.Refusals.Outcome.{gives}
-use Rattle.figures.specs.Limits.{rowBytes, mostRequirementRows}
-use Rattle.figures.proofs.Order.{both-pass, lowest-passes}
-use Rattle.figures.proofs.Passed.{Within}
-use Rattle.rows.proofs.Bytes.{length-rowsOf}
-use Rattle.rows.proofs.Sound.{requirement}
+use Rattle.lengths.specs.Lengths.{rowBytes, mostRequirementRows}
+use Rattle.laws.proofs.Order.{both-pass, lowest-passes}
+use Rattle.laws.proofs.Passed.{Within}
+use Rattle.codec.proofs.Bytes.{length-rowsOf}
+use Rattle.row_laws.proofs.Sound.{requirement}
 use Rattle.truth.proofs.Accepted.{fit}
-use Rattle.suite.specs.Layout.{form1, wordSize, conditionsIn, requirementsIn, runsIn, startIn, countIn, bodySize, bodyIn}
-use Rattle.suite.specs.Checks.{ofSuite, requirementRowsIn, runWordsIn, fileSays}
-use Rattle.suite.proofs.Inside.{length-body}
-use Rattle.suite.proofs.Items.{unit-requirement, most-requirement, unit-run, most-run}
-use Rattle.suite.proofs.Requirements.{passes-in-file}
-use Rattle.suite.proofs.Right.{ContentsRight, FileRight, file-gives}
-use Rattle.suite.proofs.Words.{length-wordsOf}
+use Rattle.layout.specs.Layout.{form1, wordSize, conditionsIn, requirementsIn, runsIn, startIn, countIn, bodySize, bodyIn}
+use Rattle.layout.specs.Checks.{ofSuite, requirementRowsIn, runWordsIn, fileSays}
+use Rattle.suite_laws.proofs.Inside.{length-body}
+use Rattle.suite_laws.proofs.Items.{unit-requirement, most-requirement, unit-run, most-run}
+use Rattle.suite_laws.proofs.Requirements.{passes-in-file}
+use Rattle.suite_laws.proofs.Right.{ContentsRight, FileRight, file-gives}
+use Rattle.suite_laws.proofs.Words.{length-wordsOf}
 use Rattle.bench.specs.Files.{RowsReady, RunReady, RequirementsReady, RunsReady}
 
 module _ (file : List ℕ) (right : FileRight form1 file) where

@@ -8,9 +8,9 @@ use lib.Dec.{eqb}
 use lib.ListN.{length}
 use Rattle.rows.specs.Rows.{Row, first, rowAt}
 use Rattle.rows.specs.Checks.{conditionAt, occurrences}
-use Rattle.truth.specs.Signals.{some}
-use Rattle.truth.specs.Truth.{readsOf, holds}
-use Rattle.cover.specs.Coverage.{covered}
+use Rattle.signals.specs.Signals.{some}
+use Rattle.signals.specs.Truth.{readsOf, holds}
+use Rattle.coverage.specs.Coverage.{covered}
 use Rattle.bench.specs.declared.ConditionAnswer.the-variants as answer
 use Rattle.bench.specs.Coverage.{Bench, size, pairCovered, occurrenceCount, heldOf, mattered, matteredCount, allOccurrences, readsCondition, pairsListed, listBytes}
 use Rattle.bench.specs.Sheet.{suiteLine, reqLine, covLine, blockOf, answerOf, condLine, totalLine, sheetText}

@@ -11,13 +11,13 @@ use native.Mathlib.Nat.{suc-mul, add-le-add}
 use borrow.Author.Tests.{eqb-true, eq-eqb}
 use lib.ListN.{length}
 use Rattle.figures.specs.Numbers.{below}
-use Rattle.figures.proofs.Below.{length-more}
-use Rattle.figures.proofs.Ascending.{below-has, has-below}
+use Rattle.laws.proofs.Below.{length-more}
+use Rattle.laws.proofs.Ascending.{below-has, has-below}
 use Rattle.rows.specs.Rows.{first, rowAt}
 use Rattle.rows.specs.Checks.{conditionAt}
-use Rattle.truth.specs.Signals.{some}
-use Rattle.truth.proofs.Bools.{left, right}
-use Rattle.truth.proofs.Plain.{some-found, some-from}
+use Rattle.signals.specs.Signals.{some}
+use Rattle.signal_laws.proofs.Bools.{left, right}
+use Rattle.signal_laws.proofs.Plain.{some-found, some-from}
 use Rattle.bench.specs.Coverage.{Bench, size, sum, pairCovered, matteredCount, allOccurrences, readsCondition, conditionRead, conditionCovered}
 
 -- one number more

@@ -8,9 +8,9 @@ use lib.ListN.{length, getD}
 use Rattle.figures.specs.Numbers.{below}
 use Rattle.rows.specs.Rows.{Row, first, rowAt}
 use Rattle.rows.specs.Checks.{conditionAt, occurrences}
-use Rattle.truth.specs.Signals.{some}
-use Rattle.truth.specs.Truth.{readsOf, holds}
-use Rattle.cover.specs.Coverage.{covered}
+use Rattle.signals.specs.Signals.{some}
+use Rattle.signals.specs.Truth.{readsOf, holds}
+use Rattle.coverage.specs.Coverage.{covered}
 
 -- what is judged: conditions; requirements, each as rows; runs, each as words. The runs may stand in another file than the requirements
 pub record Bench : Type 0 where

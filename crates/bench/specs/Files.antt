@@ -3,11 +3,12 @@
 use mathlib.Core.List.{List}
 use Prim.Native.Nat.{ℕ, _≤_, _<_}
 use lib.ListN.{length}
-use Rattle.figures.specs.Limits.{mostConditions, mostRequirements, mostRuns, mostRequirementRows, mostSteps}
+use Rattle.limits.specs.Limits.{mostConditions, mostRequirements, mostRuns}
+use Rattle.lengths.specs.Lengths.{mostRequirementRows, mostSteps}
 use Rattle.rows.specs.Checks.{IsRequirement}
-use Rattle.truth.specs.Column.{Fit}
-use Rattle.suite.specs.Layout.{form1, conditionsIn, requirementsIn, runsIn, countIn}
-use Rattle.suite.specs.Checks.{requirementRowsIn, runWordsIn}
+use Rattle.signals.specs.Column.{Fit}
+use Rattle.layout.specs.Layout.{form1, conditionsIn, requirementsIn, runsIn, countIn}
+use Rattle.layout.specs.Checks.{requirementRowsIn, runWordsIn}
 use Rattle.bench.specs.Coverage.{Bench}
 
 abbrev pub benchOf : List ℕ → List ℕ → Bench

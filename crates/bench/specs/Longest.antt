@@ -1,7 +1,8 @@
 -- The most bytes of each line of a sheet, and the sizes of the engine's tables. Nobody needs to believe this page: that they suffice is proved.
 -- Assumes nothing.
 use Prim.Native.Nat.{ℕ, _+_, _*_}
-use Rattle.figures.specs.Limits.{mostConditions, mostRequirements, mostRuns, mostRequirementRows}
+use Rattle.limits.specs.Limits.{mostConditions, mostRequirements, mostRuns}
+use Rattle.lengths.specs.Lengths.{mostRequirementRows}
 
 -- a mark for each row of a requirement and each run; a note for each requirement and each of its rows
 abbrev pub markCount : ℕ

@@ -5,12 +5,13 @@ use mathlib.Core.Bool.{Bool, false, _&&_}
 use mathlib.Core.List.{List}
 use Prim.Native.Nat.{ℕ, _+_, _*_, _<_}
 use lib.ListN.{length, getD}
-use Rattle.figures.specs.Limits.{mostRuns, mostRequirementRows}
+use Rattle.limits.specs.Limits.{mostRuns}
+use Rattle.lengths.specs.Lengths.{mostRequirementRows}
 use Rattle.rows.specs.Rows.{Row}
 use Rattle.rows.specs.Checks.{conditionAt}
-use Rattle.truth.specs.Signals.{some}
-use Rattle.truth.specs.Truth.{readsOf}
-use Rattle.cover.specs.Coverage.{covered}
+use Rattle.signals.specs.Signals.{some}
+use Rattle.signals.specs.Truth.{readsOf}
+use Rattle.coverage.specs.Coverage.{covered}
 use Rattle.bench.specs.Coverage.{Bench, matteredOf, mattered}
 
 -- the value in a row and column of a table of such a width

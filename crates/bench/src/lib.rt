@@ -1,7 +1,6 @@
 // What the list and the sheet count and say: definitions, and laws about them.
-
-use figures::Requirement;
-use figures::Suite;
+use lengths::Requirement;
+use limits::Suite;
 
 // The engine's table of one requirement: a mark for each of its rows and each run.
 pub struct Marks(pub usize);

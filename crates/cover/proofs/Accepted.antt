@@ -7,16 +7,17 @@ use Prim.Native.Nat.{ℕ, _<_, _≤_}
 use native.Mathlib.Omega.{arith}
 use lib.ListN.{length}
 use Rattle.figures.specs.Refusals.Outcome.{gives}
-use Rattle.figures.specs.Limits.{mostConditions, mostRequirementRows, mostSteps}
-use Rattle.figures.proofs.Order.{Passes, both-pass, lowest-passes}
-use Rattle.figures.proofs.Passed.{Within, run-passes}
+use Rattle.limits.specs.Limits.{mostConditions}
+use Rattle.lengths.specs.Lengths.{mostRequirementRows, mostSteps}
+use Rattle.laws.proofs.Order.{Passes, both-pass, lowest-passes}
+use Rattle.laws.proofs.Passed.{Within, run-passes}
 use Rattle.rows.specs.Rows.{Row}
 use Rattle.rows.specs.Checks.{conditionAt, occurrenceOf, rowsChecked, requirementChecked, requirementRows}
-use Rattle.rows.proofs.Occurring.{occurrence-condition}
-use Rattle.rows.proofs.Sound.{requirement}
+use Rattle.row_laws.proofs.Occurring.{occurrence-condition}
+use Rattle.row_laws.proofs.Sound.{requirement}
 use Rattle.truth.specs.Answers.{runChecked}
 use Rattle.truth.proofs.Accepted.{fit}
-use Rattle.cover.specs.Pair.{Pair}
+use Rattle.flips.specs.Pair.{Pair}
 
 module _ (rows : List Row) (k : ℕ) {p : ℕ} (there : gives p ≡ occurrenceOf rows k) where
   -- 8 to 12 passed

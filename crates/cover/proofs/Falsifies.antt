@@ -10,14 +10,15 @@ use lib.Seq.{take-at}
 use Rattle.figures.specs.Refusals.{Outcome}
 use Rattle.figures.specs.Refusals.Outcome.{gives}
 use Rattle.rows.specs.Rows.{Row}
-use Rattle.rows.specs.Codec.{rowsOf}
+use Rattle.codec.specs.Codec.{rowsOf}
 use Rattle.rows.specs.Checks.{conditionAt, occurrences}
-use Rattle.rows.proofs.Occurring.{occurrence-there, occurrence-condition}
-use Rattle.rows.proofs.Sound.{requirement as is-requirement}
-use Rattle.truth.specs.Truth.{readsOf, verdictOf, sequenceOf}
-use Rattle.cover.specs.Coverage.{flip, witnessBit}
-use Rattle.cover.specs.Answers.{witnessOf, witnessBytes, lentAfter}
-use Rattle.cover.proofs.Decide.{covered-means}
+use Rattle.row_laws.proofs.Occurring.{occurrence-there, occurrence-condition}
+use Rattle.row_laws.proofs.Sound.{requirement as is-requirement}
+use Rattle.signals.specs.Truth.{readsOf, verdictOf, sequenceOf}
+use Rattle.coverage.specs.Coverage.{flip, witnessBit}
+use Rattle.cover.specs.Answers.{witnessOf, lentAfter}
+use Rattle.coverage.specs.Coverage.{witnessBytes}
+use Rattle.flips.proofs.Decide.{covered-means}
 use Rattle.cover.proofs.Given.{witness-falsifies, given-covered}
 use Rattle.cover.proofs.Lent.{Answered}
 

@@ -16,26 +16,27 @@ use Rattle.figures.specs.declared.Refusal.the-variants.{StrayBit, ShortOutput}
 use Rattle.figures.specs.declared.StepPlace.the-variants as step-place
 use Rattle.figures.specs.Refusals.{Outcome, printedPlace, _then_}
 use Rattle.figures.specs.Refusals.Outcome.{refused, gives}
-use Rattle.figures.specs.Limits.{mostSteps}
+use Rattle.lengths.specs.Lengths.{mostSteps}
 use Rattle.figures.specs.Numbers.{refusedAt}
-use Rattle.figures.proofs.Given.{not-both, Beyond, refused-when, over-means, given-10 as run-refused}
-use Rattle.figures.proofs.Lowest.{Holds, Lowest}
-use Rattle.figures.proofs.Order.{Passes, Numbered, Never, instead, numbered-never, never-by, never-then, skip, skip-by, skip-never, stop, stop-by, passes, passes-by, both-pass, then-assoc, test-numbered, test-gives, lowest-numbered, lowest-passes, lowest-refused}
-use Rattle.figures.proofs.Passed.{Within, run-numbered, run-passes}
-use Rattle.figures.proofs.Unique.{unique, readBack, read-refusal}
+use Rattle.laws.proofs.Given.{not-both, Beyond, refused-when, over-means, given-10 as run-refused}
+use Rattle.laws.proofs.Lowest.{Holds, Lowest}
+use Rattle.laws.proofs.Order.{Passes, Numbered, Never, instead, numbered-never, never-by, never-then, skip, skip-by, skip-never, stop, stop-by, passes, passes-by, both-pass, then-assoc, test-numbered, test-gives, lowest-numbered, lowest-passes, lowest-refused}
+use Rattle.laws.proofs.Passed.{Within, run-numbered, run-passes}
+use Rattle.laws.proofs.Unique.{unique, readBack, read-refusal}
 use Rattle.rows.specs.Rows.{Row, rowAt}
-use Rattle.rows.specs.Codec.{rowsOf}
+use Rattle.codec.specs.Codec.{rowsOf}
 use Rattle.rows.specs.Checks.{isCondition, IsRequirement, requirementSized, requirementRows, occurrences, occurrenceOf}
-use Rattle.rows.proofs.Occurring.{occurrence-numbered, occurrence-gives, given-12 as no-occurrence}
-use Rattle.rows.proofs.Taken.{taken, Taken, taken-passes, never-taken}
-use Rattle.truth.specs.Truth.{Reading, readsOf, verdictOf, wordSound, lowestStray, sequenceOf}
+use Rattle.row_laws.proofs.Occurring.{occurrence-numbered, occurrence-gives, given-12 as no-occurrence}
+use Rattle.row_laws.proofs.Taken.{taken, Taken, taken-passes, never-taken}
+use Rattle.signals.specs.Truth.{Reading, readsOf, verdictOf, wordSound, lowestStray, sequenceOf}
 use Rattle.truth.specs.Answers.{runChecked}
-use Rattle.truth.proofs.Bools.{right}
+use Rattle.signal_laws.proofs.Bools.{right}
 use Rattle.cover.specs.declared.Witnessed.{Witnessed}
 use Rattle.cover.specs.declared.Witnessed.the-variants as witness
-use Rattle.cover.specs.Coverage.{flip, Covered, covered}
-use Rattle.cover.specs.Answers.{witnessSays, witnessBytes, roomFor, pairSays, witnessOf}
-use Rattle.cover.proofs.Decide.{covered-means, covered-by-bytes}
+use Rattle.coverage.specs.Coverage.{flip, Covered, covered}
+use Rattle.cover.specs.Answers.{witnessSays, roomFor, pairSays, witnessOf}
+use Rattle.coverage.specs.Coverage.{witnessBytes}
+use Rattle.flips.proofs.Decide.{covered-means, covered-by-bytes}
 
 -- two answers that say the same are equal
 abbrev given : Option ℕ → Witnessed

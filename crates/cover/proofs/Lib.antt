@@ -1,9 +1,3 @@
-pub mod Monotone
-pub mod WitnessFlips
-pub mod Extreme
-pub mod Theorems
-pub mod Decide
-pub mod Filled
 pub mod Lent
 pub mod Accepted
 pub mod Given

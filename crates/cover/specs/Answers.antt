@@ -6,18 +6,19 @@ use mathlib.Core.List.{List, _++_}
 use mathlib.Core.Option.{Option, none, some}
 use Prim.Native.Nat.{ℕ}
 use lib.Dec.{leb}
-use lib.ListN.{length, getD, take, drop, replicate}
+use lib.ListN.{length, getD, take, drop}
 use Rattle.figures.specs.declared.Refusal.the-variants.{ShortOutput}
 use Rattle.figures.specs.Refusals.{Outcome, refusal, _then_}
 use Rattle.figures.specs.Refusals.Outcome.{refused, gives}
 use Rattle.rows.specs.Rows.{Row}
-use Rattle.rows.specs.Codec.{rowsOf}
+use Rattle.codec.specs.Codec.{rowsOf}
 use Rattle.rows.specs.Checks.{requirementSized, requirementRows, occurrences, occurrenceOf}
-use Rattle.truth.specs.Truth.{readsOf, flip, verdictOf, sequenceOf}
+use Rattle.signals.specs.Truth.{readsOf, flip, verdictOf, sequenceOf}
 use Rattle.truth.specs.Answers.{runChecked}
 use Rattle.cover.specs.declared.Witnessed.{Witnessed}
 use Rattle.cover.specs.declared.Witnessed.the-variants as witness
-use Rattle.cover.specs.Coverage.{covered, witnessBit}
+use Rattle.coverage.specs.Coverage.{covered}
+use Rattle.coverage.specs.Coverage.{witnessBytes}
 
 -- what an answer says: covered with the bytes written, uncovered, or the refusal's number and place
 abbrev pub witnessSays : Witnessed → Outcome (Option ℕ)
@@ -45,10 +46,6 @@ rowsWitness rows run conditions occurrence room =
 unfoldable pub witnessOf : List ℕ → List ℕ → ℕ → ℕ → ℕ → Outcome (Option ℕ)
 witnessOf requirement run conditions occurrence room =
     requirementSized conditions (length requirement) then λ _. rowsWitness (rowsOf requirement) run conditions occurrence room
-
--- "one byte a step: all 0 for a plain occurrence, all 1 for one under 'not'"
-abbrev pub witnessBytes : List Row → ℕ → ℕ → List ℕ
-witnessBytes rows p steps = replicate steps (cond (witnessBit rows p) 1 0)
 
 -- the lent bytes afterwards: the witness and then what stood there; as they were where nothing is written
 abbrev pub lentAfter : Outcome (Option ℕ) → List ℕ → List ℕ → List ℕ

@@ -1,3 +1,1 @@
-pub mod Coverage
 pub mod Answers
-pub mod Pair

@@ -1,12 +1,1 @@
 pub mod Known
-pub mod Lowest
-pub mod Tabulated
-pub mod Below
-pub mod Parts
-pub mod Unique
-pub mod Given
-pub mod Order
-pub mod Passed
-pub mod Ascending
-pub mod Padded
-pub mod Lent

@@ -1,4 +1,3 @@
 pub mod Refusals
-pub mod Limits
 pub mod Numbers
 pub mod Outputs

@@ -1,7 +1,6 @@
-// What every number counts, the limits of document 01, and the refusals. A number crosses an interface only in one of these types.
+// What every number counts, the places, and the refusals. A number crosses an interface only in one of these types.
 ghost use mathlib.Core.Path.{_≡_};
-ghost use Rattle.figures.specs.Refusals.{numberOf, placeOf, rowPlaceOf, stepPlaceOf, printedPlace, checkSays};
-ghost use Rattle.figures.specs.Limits.{within, countsWithin, rowsWithin, suiteSays, tableSays, requirementSays, runSays, suiteOf, fileOf, tableOf, requirementOf, runOf};
+ghost use Rattle.figures.specs.Refusals.{numberOf, placeOf, rowPlaceOf, stepPlaceOf, printedPlace};
 
 // Numbers: which one is meant. All count from 0.
 pub struct ConditionNumber(pub usize);
@@ -15,6 +14,7 @@ pub struct RowNumber(pub usize);
 pub struct RequirementNumber(pub usize);
 
 pub struct RunNumber(pub usize);
+
 // Bytes before the one meant, from byte 0 of a suite file.
 pub struct ByteOffset(pub usize);
 
@@ -32,11 +32,13 @@ pub struct RequirementCount(pub usize);
 pub struct RunCount(pub usize);
 
 pub struct ByteCount(pub usize);
+
 // Pairs of an occurrence and a run.
 pub struct PairCount(pub usize);
 
 // Which line of document 01's table of refusals is meant, from 1.
 pub struct RefusalNumber(pub usize);
+
 // A place as a program prints it: the number of the byte, row or step, and 0 for none.
 pub struct PrintedPlace(pub usize);
 
@@ -166,158 +168,6 @@ impl Refusal {
             Refusal::NoSuch => Place::None,
             Refusal::TrapRows => Place::None,
             Refusal::ShortOutput => Place::None,
-        }
-    }
-}
-
-// The one test of a limit.
-fn within(least: usize, most: usize, n: usize) -> bool
-    ensures { λ r. ⌜ r ≡ within least most n ⌝ }
-{
-    (least <= n) & (n <= most)
-}
-
-fn counts_within(conditions: usize, requirements: usize, runs: usize) -> bool
-    ensures { λ r. ⌜ r ≡ countsWithin conditions requirements runs ⌝ }
-{
-    within(1, Suite::CONDITIONS, conditions)
-        & (within(1, Suite::REQUIREMENTS, requirements) & within(1, Suite::RUNS, runs))
-}
-
-fn rows_within(most: usize, bytes: usize) -> bool
-    ensures { λ r. ⌜ r ≡ rowsWithin most bytes ⌝ }
-{
-    (bytes % Table::ROW_BYTES == 0) & within(1, most, bytes / Table::ROW_BYTES)
-}
-
-// A suite's counts, within their limits.
-pub struct Suite {
-    pub conditions: ConditionCount,
-    pub requirements: RequirementCount,
-    pub runs: RunCount,
-}
-
-// A formula table's number of rows, within its limits.
-pub struct Table(pub RowCount);
-
-// A requirement's number of rows, within its limits.
-pub struct Requirement(pub RowCount);
-
-// A run's number of steps, within its limits.
-pub struct Run(pub StepCount);
-
-pub enum SuiteAnswer {
-    Made(Suite),
-    Refused(Refusal),
-}
-
-pub enum TableAnswer {
-    Made(Table),
-    Refused(Refusal),
-}
-
-pub enum RequirementAnswer {
-    Made(Requirement),
-    Refused(Refusal),
-}
-
-pub enum RunAnswer {
-    Made(Run),
-    Refused(Refusal),
-}
-
-impl Suite {
-    // The most conditions, requirements and runs of a suite, and the least and most bytes of its file.
-    pub const CONDITIONS: usize = 32;
-
-    pub const REQUIREMENTS: usize = 16;
-
-    pub const RUNS: usize = 64;
-
-    pub const LEAST_BYTES: usize = 4;
-
-    pub const BYTES: usize = 65535;
-
-    pub fn new(
-        conditions: ConditionCount,
-        requirements: RequirementCount,
-        runs: RunCount,
-    ) -> SuiteAnswer
-        ensures { λ r. ⌜ suiteSays r ≡ suiteOf (conditions .0) (requirements .0) (runs .0) ⌝ }
-    {
-        if counts_within(conditions.0, requirements.0, runs.0) {
-            SuiteAnswer::Made(Suite {
-                conditions,
-                requirements,
-                runs,
-            })
-        } else {
-            SuiteAnswer::Refused(Refusal::Counts)
-        }
-    }
-
-    // A lone table or run is read as of a suite with one requirement and one run, so that only the conditions can be refused.
-    pub fn lone(conditions: ConditionCount) -> SuiteAnswer
-        ensures { λ r. ⌜ suiteSays r ≡ suiteOf (conditions .0) 1 1 ⌝ }
-    {
-        Suite::new(conditions, RequirementCount(1), RunCount(1))
-    }
-
-    // Refusal 1 of a file of so many bytes.
-    pub fn file(bytes: ByteCount) -> Check
-        ensures { λ r. ⌜ checkSays r ≡ fileOf (bytes .0) ⌝ }
-    {
-        if within(Self::LEAST_BYTES, Self::BYTES, bytes.0) {
-            Check::Passed
-        } else {
-            Check::Refused(Refusal::FileBytes)
-        }
-    }
-}
-
-impl Table {
-    // The most rows of a formula table, and the bytes of a row.
-    pub const ROWS: usize = 224;
-
-    pub const ROW_BYTES: usize = 3;
-
-    pub fn new(bytes: ByteCount) -> TableAnswer
-        ensures { λ r. ⌜ tableSays r ≡ tableOf (bytes .0) ⌝ }
-    {
-        if rows_within(Self::ROWS, bytes.0) {
-            TableAnswer::Made(Table(RowCount(bytes.0 / Self::ROW_BYTES)))
-        } else {
-            TableAnswer::Refused(Refusal::TableLength)
-        }
-    }
-}
-
-impl Requirement {
-    // The most rows of a requirement.
-    pub const ROWS: usize = 32;
-
-    pub fn new(bytes: ByteCount) -> RequirementAnswer
-        ensures { λ r. ⌜ requirementSays r ≡ requirementOf (bytes .0) ⌝ }
-    {
-        if rows_within(Self::ROWS, bytes.0) {
-            RequirementAnswer::Made(Requirement(RowCount(bytes.0 / Table::ROW_BYTES)))
-        } else {
-            RequirementAnswer::Refused(Refusal::TableLength)
-        }
-    }
-}
-
-impl Run {
-    // The most steps of a run.
-    pub const STEPS: usize = 4096;
-
-    pub fn new(steps: StepCount) -> RunAnswer
-        ensures { λ r. ⌜ runSays r ≡ runOf (steps .0) ⌝ }
-    {
-        if within(1, Self::STEPS, steps.0) {
-            RunAnswer::Made(Run(steps))
-        } else {
-            RunAnswer::Refused(Refusal::RunLength)
         }
     }
 }

@@ -15,14 +15,14 @@ use Rattle.figures.specs.declared.Place.the-variants as place
 use Rattle.figures.specs.declared.Refusal.the-variants.{NoSuch, ShortOutput}
 use Rattle.figures.specs.Refusals.{Outcome, refusal, _then_}
 use Rattle.figures.specs.Refusals.Outcome.{refused, gives}
-use Rattle.figures.proofs.Given.{refused-when, over-means}
-use Rattle.figures.proofs.Order.{Passes, Numbered, Never, instead, numbered-never, never-then, skip, skip-never, stop, passes, test-numbered, test-passes, test-gives, test-then}
+use Rattle.laws.proofs.Given.{refused-when, over-means}
+use Rattle.laws.proofs.Order.{Passes, Numbered, Never, instead, numbered-never, never-then, skip, skip-never, stop, passes, test-numbered, test-passes, test-gives, test-then}
 use Rattle.rows.specs.Checks.{occurrences}
-use Rattle.suite.specs.Layout.{form1, requirementsIn, runsIn}
-use Rattle.suite.specs.Checks.{countsOf, fileSays, requirementRowsIn}
-use Rattle.suite.proofs.Given.{OfFile, no-other as file-numbers, never-other}
-use Rattle.suite.proofs.Refused.{refuses-then}
-use Rattle.suite.proofs.Right.{FileRight, file-gives}
+use Rattle.layout.specs.Layout.{form1, requirementsIn, runsIn}
+use Rattle.layout.specs.Checks.{countsOf, fileSays, requirementRowsIn}
+use Rattle.suite_laws.proofs.Given.{OfFile, no-other as file-numbers, never-other}
+use Rattle.suite_laws.proofs.Refused.{refuses-then}
+use Rattle.suite_laws.proofs.Right.{FileRight, file-gives}
 use Rattle.listing.specs.Answers.{listOf, listed}
 
 not-below : (a b : ℕ) → (So (ltb a b) → ⊥) ↔ (b ≤ a)

@@ -4,11 +4,11 @@ use mathlib.Core.Path.{_≡_, sym, _∙_}
 use mathlib.Core.List.{List}
 use Prim.Native.Nat.{ℕ}
 use lib.ListN.{length}
-use Rattle.figures.proofs.Unique.{output-unique}
+use Rattle.laws.proofs.Unique.{output-unique}
 use Rattle.figures.specs.declared.Output.{Output}
 use Rattle.figures.specs.Outputs.{outputSays}
 use Rattle.listing.specs.Answers.{listOf, listed}
-use Rattle.figures.proofs.Lent.{Answered}
+use Rattle.laws.proofs.Lent.{Answered}
 
 -- what the contract of `list` allows: an answer, and the lent bytes afterwards
 abbrev pub Allowed : List ℕ → ℕ → List ℕ → Output → List ℕ → Type 0

@@ -10,8 +10,8 @@ use Rattle.figures.specs.Refusals.{Outcome, refusal, _then_}
 use Rattle.figures.specs.Refusals.Outcome.{gives}
 use Rattle.rows.specs.Rows.{Row}
 use Rattle.rows.specs.Checks.{occurrences}
-use Rattle.suite.specs.Layout.{form1, requirementsIn, runsIn}
-use Rattle.suite.specs.Checks.{fileSays, requirementRowsIn, runWordsIn}
+use Rattle.layout.specs.Layout.{form1, requirementsIn, runsIn}
+use Rattle.layout.specs.Checks.{fileSays, requirementRowsIn, runWordsIn}
 use Rattle.bench.specs.Coverage.{coveredOf, pairsListed, pairBytes, listBytes}
 use Rattle.bench.specs.Files.{benchOf}
 

@@ -5,11 +5,12 @@ use mathlib.Core.List.{List}
 use Prim.Native.Nat.{ℕ, _+_, _*_, _/_, _≤_, _<_}
 use native.Mathlib.Omega.{arith}
 use lib.ListN.{length, take}
-use Rattle.figures.specs.Limits.{mostSteps}
-use Rattle.figures.proofs.Padded.{inside, front, front-length}
-use Rattle.suite.specs.Layout.{form1, wordSize, littleAt, requirementsIn, runsIn, bodyIn}
-use Rattle.suite.specs.Checks.{wordsOf, paddedWords, runWordsIn}
-use Rattle.suite.proofs.Words.{length-wordsOf}
+use Rattle.lengths.specs.Lengths.{mostSteps}
+use Rattle.laws.proofs.Padded.{inside, front, front-length}
+use Rattle.layout.specs.Layout.{form1, wordSize, requirementsIn, runsIn, bodyIn}
+use Rattle.little.specs.Little.{littleAt}
+use Rattle.layout.specs.Checks.{wordsOf, paddedWords, runWordsIn}
+use Rattle.suite_laws.proofs.Words.{length-wordsOf}
 use Rattle.bench.specs.Files.{RunReady, RunsReady}
 
 module _

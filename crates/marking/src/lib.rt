@@ -3,11 +3,11 @@ ghost use mathlib.Core.Path.{_≡_};
 ghost use mathlib.Core.Bool.{cond};
 ghost use Prim.Native.Nat.{_≤_, _<_};
 ghost use lib.ListN.{length};
-ghost use Rattle.figures.specs.Limits.{mostRuns};
+ghost use Rattle.limits.specs.Limits.{mostRuns};
 ghost use Rattle.bench.specs.Longest.{markCount};
-ghost use Rattle.truth.specs.Truth.{holds};
-ghost use Rattle.suite.specs.Layout.{form1, runsIn};
-ghost use Rattle.suite.specs.Checks.{runWordsIn};
+ghost use Rattle.signals.specs.Truth.{holds};
+ghost use Rattle.layout.specs.Layout.{form1, runsIn};
+ghost use Rattle.layout.specs.Checks.{runWordsIn};
 ghost use Rattle.bench.specs.Coverage.{heldOf};
 ghost use Rattle.bench.specs.Tables.{markOf, Marked, ColumnMarked};
 ghost use Rattle.bench.specs.Files.{RowsReady, RunReady, RunsReady};
@@ -15,9 +15,9 @@ use bench::Marks;
 use figures::RowNumber;
 use figures::RunCount;
 use figures::RunNumber;
-use figures::Suite;
-use suite::Form;
-use truth::Flip;
+use layout::Form;
+use limits::Suite;
+use signals::Flip;
 
 // The mark of row p for a run: whether it is an occurrence in a covered pair.
 fn mark_of(rows: &[[u16; 3]], run: &[u32], p: RowNumber) -> bool
@@ -25,7 +25,7 @@ fn mark_of(rows: &[[u16; 3]], run: &[u32], p: RowNumber) -> bool
     ensures { λ r. ⌜ r ≡ markOf (now (rows .entry)) (now (run .entry)) (p .0) ⌝ }
 {
     if rows::is_condition(rows, p) {
-        cover::covers(rows, run, p)
+        flips::covers(rows, run, p)
     } else {
         false
     }
@@ -78,7 +78,7 @@ fn held_by(file: &[u8], rows: &[[u16; 3]], j: RunNumber) -> bool
     let body = suite::run_bytes(file, j);
     let words = suite::words_of(body);
     let steps = body.len() / Form::WORD_BYTES;
-    truth::judge(rows, &words[..steps], Flip::Nowhere, b"")
+    columns::judge(rows, &words[..steps], Flip::Nowhere, b"")
 }
 
 // How many runs of a file a requirement holds of.

@@ -12,7 +12,8 @@ use Rattle.figures.specs.declared.RowPlace.the-variants as row-place
 use Rattle.figures.specs.declared.Refusal.the-variants.{UnsoundRow, NotRequirement, NoSuch}
 use Rattle.figures.specs.Refusals.{Outcome, refusal, _then_}
 use Rattle.figures.specs.Refusals.Outcome.{gives}
-use Rattle.figures.specs.Limits.{suiteOf, tableOf, requirementOf}
+use Rattle.limits.specs.Limits.{suiteOf}
+use Rattle.lengths.specs.Lengths.{tableOf, requirementOf}
 use Rattle.figures.specs.Numbers.{below, lowest, refusedAt}
 use Rattle.rows.specs.declared.Fields.{Fields}
 use Rattle.rows.specs.declared.Fields.the-variants as fields

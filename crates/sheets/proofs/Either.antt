@@ -7,13 +7,13 @@ use Prim.Native.Nat.{ℕ}
 use native.Mathlib.Omega.{arith}
 use lib.ListN.{getD}
 use Rattle.figures.specs.declared.Place.{Place}
-use Rattle.figures.specs.declared.Suite.{Suite}
+use Rattle.limits.specs.declared.Suite.{Suite}
 use Rattle.figures.specs.Refusals.{Outcome}
 use Rattle.figures.specs.Refusals.Outcome.{refused, gives}
 use Rattle.lines.specs.Lines.{refusedLine}
-use Rattle.suite.specs.Layout.{form1}
-use Rattle.suite.specs.Checks.{fileSays}
-use Rattle.suite.proofs.Right.{FileRight, file-gives}
+use Rattle.layout.specs.Layout.{form1}
+use Rattle.layout.specs.Checks.{fileSays}
+use Rattle.suite_laws.proofs.Right.{FileRight, file-gives}
 use Rattle.bench.specs.Sheet.{sheetText}
 use Rattle.sheets.specs.Answers.{sheetOfFile, pageBy, pageText}
 

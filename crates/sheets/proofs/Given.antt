@@ -12,13 +12,13 @@ use Rattle.figures.specs.declared.Place.{Place}
 use Rattle.figures.specs.declared.Place.the-variants as place
 use Rattle.figures.specs.declared.Refusal.the-variants.{ShortOutput}
 use Rattle.figures.specs.Refusals.Outcome.{refused, gives}
-use Rattle.figures.proofs.Given.{refused-when, over-means}
-use Rattle.figures.proofs.Order.{Passes, Numbered, numbered-never, skip-never, stop, passes, test-numbered, test-gives}
-use Rattle.suite.specs.Layout.{form1}
-use Rattle.suite.specs.Checks.{countsOf, fileSays}
-use Rattle.suite.proofs.Given.{OfFile, no-other as file-numbers, never-other}
-use Rattle.suite.proofs.Refused.{refuses-then}
-use Rattle.suite.proofs.Right.{FileRight, file-gives}
+use Rattle.laws.proofs.Given.{refused-when, over-means}
+use Rattle.laws.proofs.Order.{Passes, Numbered, numbered-never, skip-never, stop, passes, test-numbered, test-gives}
+use Rattle.layout.specs.Layout.{form1}
+use Rattle.layout.specs.Checks.{countsOf, fileSays}
+use Rattle.suite_laws.proofs.Given.{OfFile, no-other as file-numbers, never-other}
+use Rattle.suite_laws.proofs.Refused.{refuses-then}
+use Rattle.suite_laws.proofs.Right.{FileRight, file-gives}
 use Rattle.sheets.specs.Answers.{sheetOfFile, pageText, textOf, pageOf, sheetOf}
 
 -- a text is refused by 14 alone, exactly where it does not fit

@@ -11,8 +11,8 @@ use Rattle.lines.proofs.Fields.{length-more, length-last}
 use Rattle.lines.proofs.Width.{width-2, width-3}
 use Rattle.rows.specs.Rows.{Row}
 use Rattle.rows.specs.Checks.{occurrences}
-use Rattle.suite.specs.Layout.{form1}
-use Rattle.suite.proofs.Right.{FileRight}
+use Rattle.layout.specs.Layout.{form1}
+use Rattle.suite_laws.proofs.Right.{FileRight}
 use Rattle.bench.specs.declared.ConditionAnswer.{ConditionAnswer}
 use Rattle.bench.specs.declared.ConditionAnswer.the-variants as answer
 use Rattle.bench.specs.Coverage.{Bench, inOrder, coveredOf, heldOf, matteredCount, allOccurrences, rowOfOccurrence}
@@ -21,7 +21,7 @@ use Rattle.bench.specs.Sheet.{suiteWord, reqWord, occWord, heldWord, covWord, c
 use Rattle.bench.proofs.Ready.{requirements-ready, runs-ready}
 use Rattle.bench.proofs.Sizes.{size-most, sum-most, mattered-few}
 use Rattle.printing.proofs.InOrder.{order-within}
-use Rattle.printing.proofs.Occurring.{few-occurrences}
+use Rattle.covs.proofs.Occurring.{few-occurrences}
 use Rattle.sheets.specs.Answers.{sheetOfFile}
 
 -- a line has its fields' bytes, and one byte after each

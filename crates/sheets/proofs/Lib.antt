@@ -1,5 +1,3 @@
-pub mod Texts
-pub mod Noted
 pub mod Unique
 pub mod Given
 pub mod Either

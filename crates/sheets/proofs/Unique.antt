@@ -7,8 +7,8 @@ use lib.ListN.{length}
 use Rattle.figures.specs.declared.Output.{Output}
 use Rattle.figures.specs.Outputs.{outputSays}
 use Rattle.figures.specs.Refusals.{Outcome}
-use Rattle.figures.proofs.Lent.{Answered}
-use Rattle.figures.proofs.Unique.{output-unique}
+use Rattle.laws.proofs.Lent.{Answered}
+use Rattle.laws.proofs.Unique.{output-unique}
 use Rattle.sheets.specs.Answers.{sheetOfFile, pageText, pageOf, sheetOf}
 
 -- what the contracts allow: an answer, and the lent bytes afterwards

@@ -6,12 +6,12 @@ use Prim.Native.Nat.{ℕ}
 use lib.Dec.{leb}
 use lib.ListN.{length}
 use Rattle.figures.specs.declared.Refusal.the-variants.{ShortOutput}
-use Rattle.figures.specs.declared.Suite.{Suite}
+use Rattle.limits.specs.declared.Suite.{Suite}
 use Rattle.figures.specs.Refusals.{Outcome, refusal, _then_}
 use Rattle.figures.specs.Refusals.Outcome.{refused, gives}
 use Rattle.lines.specs.Lines.{refusedLine}
-use Rattle.suite.specs.Layout.{form1}
-use Rattle.suite.specs.Checks.{fileSays}
+use Rattle.layout.specs.Layout.{form1}
+use Rattle.layout.specs.Checks.{fileSays}
 use Rattle.bench.specs.Sheet.{sheetText}
 use Rattle.bench.specs.Files.{benchOf}
 

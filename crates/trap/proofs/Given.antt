@@ -14,19 +14,19 @@ use Rattle.figures.specs.declared.Place.the-variants as place
 use Rattle.figures.specs.declared.Refusal.the-variants.{TrapRows}
 use Rattle.figures.specs.Refusals.{Outcome, refusal, _then_}
 use Rattle.figures.specs.Refusals.Outcome.{refused, gives}
-use Rattle.figures.specs.Limits.{rowBytes, mostTableRows}
-use Rattle.figures.proofs.Given.{refused-when, over-means}
-use Rattle.figures.proofs.Order.{Passes, Numbered, Never, instead, numbered-never, never-by, never-then, skip, skip-by, skip-never, stop, stop-by, passes, passes-by, test-numbered, test-passes, test-then, then-assoc}
-use Rattle.figures.proofs.Unique.{unique, readBack, read-refusal}
+use Rattle.lengths.specs.Lengths.{rowBytes, mostTableRows}
+use Rattle.laws.proofs.Given.{refused-when, over-means}
+use Rattle.laws.proofs.Order.{Passes, Numbered, Never, instead, numbered-never, never-by, never-then, skip, skip-by, skip-never, stop, stop-by, passes, passes-by, test-numbered, test-passes, test-then, then-assoc}
+use Rattle.laws.proofs.Unique.{unique, readBack, read-refusal}
 use Rattle.rows.specs.Rows.{Row}
-use Rattle.rows.specs.Codec.{rowsOf, encodeOf}
+use Rattle.codec.specs.Codec.{rowsOf, encodeOf}
 use Rattle.rows.specs.Checks.{requirementSized, requirementRows, occurrences, occurrenceOf}
-use Rattle.rows.proofs.Given.{encode-numbered, given-14 as encode-refused, given-written as encode-gives}
-use Rattle.rows.proofs.Occurring.{occurrence-numbered, occurrence-gives, given-12 as no-occurrence}
-use Rattle.rows.proofs.Taken.{taken, Taken, taken-passes, never-taken}
+use Rattle.row_laws.proofs.Given.{encode-numbered, given-14 as encode-refused, given-written as encode-gives}
+use Rattle.row_laws.proofs.Occurring.{occurrence-numbered, occurrence-gives, given-12 as no-occurrence}
+use Rattle.row_laws.proofs.Taken.{taken, Taken, taken-passes, never-taken}
 use Rattle.trap.specs.declared.Trapped.{Trapped}
 use Rattle.trap.specs.declared.Trapped.the-variants as trapped
-use Rattle.trap.specs.TrapRows.{trapTable}
+use Rattle.rules.specs.TrapRows.{trapTable}
 use Rattle.trap.specs.Answers.{trapSays, trapFor, trapOf}
 
 -- two answers that say the same are equal

@@ -1,11 +1,2 @@
-pub mod Count
-pub mod KindTraps
-pub mod Child
-pub mod Grow
-pub mod Induction
-pub mod Laid
-pub mod Climb
-pub mod Written
-pub mod Upward
 pub mod Output
 pub mod Given

@@ -11,12 +11,12 @@ use lib.Seq.{take-at, drop-at, drop-drop}
 use Rattle.figures.specs.declared.Refusal.the-variants.{TrapRows, ShortOutput}
 use Rattle.figures.specs.Refusals.{Outcome, refusal}
 use Rattle.figures.specs.Refusals.Outcome.{gives}
-use Rattle.figures.specs.Limits.{rowBytes, mostTableRows}
-use Rattle.figures.proofs.Parts.{rest-lent, rest-back}
+use Rattle.lengths.specs.Lengths.{rowBytes, mostTableRows}
+use Rattle.laws.proofs.Parts.{rest-lent, rest-back}
 use Rattle.rows.specs.Rows.{Row}
-use Rattle.rows.specs.Codec.{bytesOf, encodeOf, encoded}
-use Rattle.rows.proofs.Bytes.{bytesOf-append, length-bytesOf}
-use Rattle.trap.specs.TrapRows.{trapTable, way, added}
+use Rattle.codec.specs.Codec.{bytesOf, encodeOf, encoded}
+use Rattle.codec.proofs.Bytes.{bytesOf-append, length-bytesOf}
+use Rattle.rules.specs.TrapRows.{trapTable, way, added}
 use Rattle.trap.specs.Answers.{trapFor, lentAfter, tableWritten}
 
 -- rows that fit are written

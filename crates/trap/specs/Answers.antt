@@ -8,13 +8,13 @@ use lib.ListN.{length, drop, getD}
 use Rattle.figures.specs.declared.Refusal.the-variants.{TrapRows}
 use Rattle.figures.specs.Refusals.{Outcome, refusal, _then_}
 use Rattle.figures.specs.Refusals.Outcome.{refused, gives}
-use Rattle.figures.specs.Limits.{rowBytes, mostTableRows}
+use Rattle.lengths.specs.Lengths.{rowBytes, mostTableRows}
 use Rattle.rows.specs.Rows.{Row}
-use Rattle.rows.specs.Codec.{rowsOf, bytesOf, encodeOf}
+use Rattle.codec.specs.Codec.{rowsOf, bytesOf, encodeOf}
 use Rattle.rows.specs.Checks.{requirementSized, requirementRows, occurrenceOf, occurrences}
 use Rattle.trap.specs.declared.Trapped.{Trapped}
 use Rattle.trap.specs.declared.Trapped.the-variants as trapped
-use Rattle.trap.specs.TrapRows.{trapTable}
+use Rattle.rules.specs.TrapRows.{trapTable}
 
 -- what an answer says: the bytes written, or the refusal's number and place
 abbrev pub trapSays : Trapped → Outcome ℕ

@@ -1,3 +1,1 @@
-pub mod TrapRows
-pub mod Climbing
 pub mod Answers

@@ -4,13 +4,14 @@ use mathlib.Core.List.{List}
 use Prim.Native.Nat.{ℕ, _≤_, _<_}
 use native.Mathlib.Omega.{arith}
 use lib.ListN.{length}
-use Rattle.figures.specs.Limits.{mostConditions, mostTableRows}
-use Rattle.figures.proofs.Order.{Passes, both-pass, lowest-passes}
-use Rattle.figures.proofs.Passed.{run-passes}
+use Rattle.limits.specs.Limits.{mostConditions}
+use Rattle.lengths.specs.Lengths.{mostTableRows}
+use Rattle.laws.proofs.Order.{Passes, both-pass, lowest-passes}
+use Rattle.laws.proofs.Passed.{run-passes}
 use Rattle.rows.specs.Rows.{Row}
 use Rattle.rows.specs.Checks.{rowsChecked}
-use Rattle.rows.proofs.Sound.{Sound, sound-lower, sound-inside}
-use Rattle.truth.specs.Column.{Fit}
+use Rattle.row_laws.proofs.Sound.{Sound, sound-lower, sound-inside}
+use Rattle.signals.specs.Column.{Fit}
 use Rattle.truth.specs.Answers.{runChecked}
 
 -- 8 passed

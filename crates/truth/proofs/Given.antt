@@ -13,21 +13,22 @@ use Rattle.figures.specs.declared.Refusal.the-variants.{StrayBit}
 use Rattle.figures.specs.declared.StepPlace.the-variants as step-place
 use Rattle.figures.specs.Refusals.{Outcome, _then_, printedPlace}
 use Rattle.figures.specs.Refusals.Outcome.{refused, gives}
-use Rattle.figures.specs.declared.Suite.{Suite}
+use Rattle.limits.specs.declared.Suite.{Suite}
 use Rattle.figures.specs.Numbers.{refusedAt}
-use Rattle.figures.specs.Limits.{suiteOf, tableOf, runOf, mostConditions, mostTableRows, mostSteps}
-use Rattle.figures.proofs.Given.{Beyond, WrongLength, given-7 as table-refused, given-10 as run-refused}
-use Rattle.figures.proofs.Lowest.{Holds, Lowest}
-use Rattle.figures.proofs.Order.{Numbered, Never, skip, stop, never-then, never-gives, passes, then-assoc, lowest-numbered, lowest-passes, lowest-refused}
-use Rattle.figures.proofs.Passed.{Within, RightLength, lone-passes, lone-refused, suite-numbered, table-numbered, table-passes, run-numbered, run-passes}
-use Rattle.figures.proofs.Unique.{unique, readBack, read-refusal}
+use Rattle.limits.specs.Limits.{suiteOf, mostConditions}
+use Rattle.lengths.specs.Lengths.{tableOf, runOf, mostTableRows, mostSteps}
+use Rattle.laws.proofs.Given.{Beyond, WrongLength, given-7 as table-refused, given-10 as run-refused}
+use Rattle.laws.proofs.Lowest.{Holds, Lowest}
+use Rattle.laws.proofs.Order.{Numbered, Never, skip, stop, never-then, never-gives, passes, then-assoc, lowest-numbered, lowest-passes, lowest-refused}
+use Rattle.laws.proofs.Passed.{Within, RightLength, lone-passes, lone-refused, suite-numbered, table-numbered, table-passes, run-numbered, run-passes}
+use Rattle.laws.proofs.Unique.{unique, readBack, read-refusal}
 use Rattle.rows.specs.Rows.{rowAt}
-use Rattle.rows.specs.Codec.{rowsOf}
+use Rattle.codec.specs.Codec.{rowsOf}
 use Rattle.rows.specs.Checks.{rowSound, rowsChecked}
-use Rattle.rows.proofs.Sound.{Sound}
+use Rattle.row_laws.proofs.Sound.{Sound}
 use Rattle.truth.specs.declared.Verdict.{Verdict}
 use Rattle.truth.specs.declared.Verdict.the-variants as verdict
-use Rattle.truth.specs.Truth.{wordSound, lowestStray, holds}
+use Rattle.signals.specs.Truth.{wordSound, lowestStray, holds}
 use Rattle.truth.specs.Answers.{verdictSays, truthSays}
 
 -- two verdicts that say the same are equal

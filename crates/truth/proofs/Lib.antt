@@ -1,10 +1,2 @@
-pub mod Bools
-pub mod Unfold
-pub mod ByKind
-pub mod Model
-pub mod Plain
-pub mod Cells
-pub mod Bits
-pub mod Columns
 pub mod Accepted
 pub mod Given

@@ -9,16 +9,16 @@ use Rattle.figures.specs.declared.StepPlace.the-variants as step-place
 use Rattle.figures.specs.declared.Refusal.the-variants.{StrayBit}
 use Rattle.figures.specs.Refusals.{Outcome, refusal, _then_}
 use Rattle.figures.specs.Refusals.Outcome.{gives}
-use Rattle.figures.specs.Limits.{runOf}
+use Rattle.lengths.specs.Lengths.{runOf}
 use Rattle.figures.specs.Numbers.{refusedAt}
 use Rattle.rows.specs.Rows.{Row}
-use Rattle.rows.specs.Codec.{rowsOf}
+use Rattle.codec.specs.Codec.{rowsOf}
 use Rattle.rows.specs.Checks.{tableSized, rowsChecked}
 use Rattle.truth.specs.declared.Verdict.{Verdict}
 use Rattle.truth.specs.declared.Verdict.the-variants as verdict
 use Rattle.truth.specs.declared.StepFound.{StepFound}
 use Rattle.truth.specs.declared.StepFound.the-variants as step-found
-use Rattle.truth.specs.Truth.{lowestStray, holds}
+use Rattle.signals.specs.Truth.{lowestStray, holds}
 
 -- what an answer says: true where the formula holds of the run, false where it fails, or the refusal's number and place
 abbrev pub verdictSays : Verdict → Outcome Bool

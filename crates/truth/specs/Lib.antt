@@ -1,4 +1,1 @@
-pub mod Signals
-pub mod Truth
 pub mod Answers
-pub mod Column

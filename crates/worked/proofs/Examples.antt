@@ -2,10 +2,10 @@
 -- Assumes nothing.
 use mathlib.Core.Path.{refl}
 use Rattle.figures.specs.Numbers.{below}
-use Rattle.truth.specs.Signals.{some, every, negation, both, either, strong-next, weak-next, until, release, finally}
-use Rattle.truth.specs.Truth.{bit, deep, truthOf}
-use Rattle.trap.specs.TrapRows.{climb, way}
-use Rattle.cover.specs.Coverage.{someSequence, covered}
+use Rattle.signals.specs.Signals.{some, every, negation, both, either, strong-next, weak-next, until, release, finally}
+use Rattle.signals.specs.Truth.{bit, deep, truthOf}
+use Rattle.rules.specs.TrapRows.{climb, way}
+use Rattle.coverage.specs.Coverage.{someSequence, covered}
 use Rattle.worked.specs.Examples.{Examples}
 
 pub examples : Examples

@@ -7,9 +7,9 @@ use Prim.Native.Nat.{ℕ, _+_, _^_}
 use lib.ListN.{length, getD}
 use Rattle.rows.specs.Rows.{Row, row}
 use Rattle.rows.specs.Checks.{occurrences}
-use Rattle.truth.specs.Truth.{readsOf, holds}
-use Rattle.trap.specs.TrapRows.{trapTable}
-use Rattle.cover.specs.Coverage.{covered}
+use Rattle.signals.specs.Truth.{readsOf, holds}
+use Rattle.rules.specs.TrapRows.{trapTable}
+use Rattle.coverage.specs.Coverage.{covered}
 
 -- "Conditions a, b, c are 0, 1, 2; a step is a set"
 abbrev pub a : ℕ

@@ -2,15 +2,15 @@
 ghost use mathlib.Core.Path.{_≡_};
 ghost use Prim.Native.Nat.{_+_, _*_};
 ghost use lib.ListN.{length};
-ghost use Rattle.figures.specs.Limits.{rowBytes, mostTableRows};
+ghost use Rattle.lengths.specs.Lengths.{rowBytes, mostTableRows};
 use cover::Witnessed;
 use figures::ConditionCount;
 use figures::OccurrenceNumber;
 use figures::Output;
 use figures::Refusal;
 use figures::RequirementNumber;
-use figures::Run;
-use figures::Table;
+use lengths::Run;
+use lengths::Table;
 use libc::STDOUT_FILENO;
 use trap::Trapped;
 use truth::Verdict;

@@ -4,12 +4,12 @@ use borrow.Author.Needs.{needs}
 use native.Mathlib.Omega.{arith}
 use Prim.Native.Nat.{_-_}
 use lib.ListN.{length}
-use Rattle.figures.specs.Limits.{mostRequirementRows}
-use Rattle.suite.specs.Layout.{form1}
-use Rattle.suite.specs.Checks.{requirementRowsIn}
+use Rattle.lengths.specs.Lengths.{mostRequirementRows}
+use Rattle.layout.specs.Layout.{form1}
+use Rattle.layout.specs.Checks.{requirementRowsIn}
 use Rattle.bench.specs.Coverage.{size}
 use Rattle.bench.specs.Tables.{noted}
-use Rattle.counting.proofs.Loops.{Summed, summed-none, summed-more, summed-all}
+use Rattle.bench.proofs.Loops.{Summed, summed-none, summed-more, summed-all}
 use Rattle.counting.proofs.all_noted.Statement.{statement}
 use Rattle.counting.proofs.all_noted.Tie as tie
 

@@ -5,10 +5,10 @@ use native.Mathlib.Omega.{arith}
 use Prim.Native.Nat.{_-_}
 use lib.ListN.{length}
 use Rattle.rows.specs.Checks.{occurrences}
-use Rattle.figures.specs.Limits.{mostRequirementRows}
-use Rattle.suite.specs.Layout.{form1}
-use Rattle.suite.specs.Checks.{requirementRowsIn}
-use Rattle.counting.proofs.Loops.{Summed, summed-none, summed-more, summed-all}
+use Rattle.lengths.specs.Lengths.{mostRequirementRows}
+use Rattle.layout.specs.Layout.{form1}
+use Rattle.layout.specs.Checks.{requirementRowsIn}
+use Rattle.bench.proofs.Loops.{Summed, summed-none, summed-more, summed-all}
 use Rattle.counting.proofs.all_occurrences.Statement.{statement}
 use Rattle.counting.proofs.all_occurrences.Tie as tie
 

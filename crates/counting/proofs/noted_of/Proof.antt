@@ -5,9 +5,9 @@ use native.Mathlib.Omega.{arith}
 use Prim.Native.Nat.{_-_}
 use lib.ListN.{length}
 use Rattle.bench.specs.Tables.{noted}
-use Rattle.suite.specs.Layout.{form1}
-use Rattle.suite.specs.Checks.{requirementRowsIn}
-use Rattle.counting.proofs.Loops.{Counted, counted-none, counted-more, counted-all}
+use Rattle.layout.specs.Layout.{form1}
+use Rattle.layout.specs.Checks.{requirementRowsIn}
+use Rattle.bench.proofs.Loops.{Counted, counted-none, counted-more, counted-all}
 use Rattle.counting.proofs.noted_of.Statement.{statement}
 use Rattle.counting.proofs.noted_of.Tie as tie
 

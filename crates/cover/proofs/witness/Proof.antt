@@ -9,16 +9,18 @@ use Prim.Native.Nat.{ℕ, _/_, _≤_}
 use lib.ListN.{length, getD, take}
 use Rattle.figures.specs.Refusals.{Outcome, checkSays, _then_}
 use Rattle.figures.specs.Refusals.Outcome.{gives}
-use Rattle.figures.specs.Limits.{rowBytes, mostConditions, mostRequirementRows, mostTableRows}
+use Rattle.lengths.specs.Lengths.{rowBytes, mostRequirementRows, mostTableRows}
+use Rattle.limits.specs.Limits.{mostConditions}
 use Rattle.figures.proofs.Known.{said}
-use Rattle.figures.proofs.Passed.{Within, RightLength}
-use Rattle.figures.proofs.Tabulated.{length-tabulate}
+use Rattle.laws.proofs.Passed.{Within, RightLength}
+use Rattle.laws.proofs.Tabulated.{length-tabulate}
 use Rattle.rows.specs.Rows.{Row}
-use Rattle.rows.specs.Codec.{rowOf, rowsOf, padded}
+use Rattle.codec.specs.Codec.{rowOf, rowsOf, padded}
 use Rattle.rows.specs.Checks.{requirementSized, occurrences}
-use Rattle.rows.proofs.Bytes.{decoded, length-padded}
-use Rattle.rows.proofs.Sized.{requirement-sized}
-use Rattle.cover.specs.Answers.{rowsWitness, witnessOf, witnessBytes}
+use Rattle.codec.proofs.Bytes.{decoded, length-padded}
+use Rattle.row_laws.proofs.Sized.{requirement-sized}
+use Rattle.cover.specs.Answers.{rowsWitness, witnessOf}
+use Rattle.coverage.specs.Coverage.{witnessBytes}
 use Rattle.cover.proofs.Falsifies.{falsified}
 use Rattle.cover.proofs.Lent.{Answered, along, answered}
 use Rattle.cover.proofs.witness.Statement.{statement}

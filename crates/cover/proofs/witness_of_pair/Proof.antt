@@ -13,10 +13,11 @@ use Rattle.figures.specs.declared.Refusal.the-variants.{ShortOutput}
 use Rattle.figures.specs.Refusals.{Outcome, refusal}
 use Rattle.figures.specs.Refusals.Outcome.{gives}
 use Rattle.rows.specs.Rows.{Row}
-use Rattle.truth.specs.Truth.{readsOf}
-use Rattle.cover.specs.Coverage.{witnessBit, covered}
-use Rattle.cover.specs.Answers.{pairSays, witnessBytes}
-use Rattle.cover.proofs.Filled.{filled}
+use Rattle.signals.specs.Truth.{readsOf}
+use Rattle.coverage.specs.Coverage.{witnessBit, covered}
+use Rattle.cover.specs.Answers.{pairSays}
+use Rattle.coverage.specs.Coverage.{witnessBytes}
+use Rattle.flips.proofs.Filled.{filled}
 use Rattle.cover.proofs.Lent.{Answered, answered}
 use Rattle.cover.proofs.witness_of_pair.Statement.{statement}
 use Rattle.cover.proofs.witness_of_pair.Tie as tie

@@ -12,8 +12,9 @@ use Rattle.figures.proofs.Known.{said}
 use Rattle.rows.specs.Rows.{Row}
 use Rattle.rows.specs.Checks.{requirementRows, occurrences, occurrenceSays, occurrenceOf}
 use Rattle.truth.specs.Answers.{runChecked}
-use Rattle.cover.specs.Answers.{pairSays, rowsWitness, witnessBytes}
-use Rattle.rows.proofs.Occurring.{occurrence-row}
+use Rattle.cover.specs.Answers.{pairSays, rowsWitness}
+use Rattle.coverage.specs.Coverage.{witnessBytes}
+use Rattle.row_laws.proofs.Occurring.{occurrence-row}
 use Rattle.cover.proofs.Accepted.{accepted}
 use Rattle.cover.proofs.Lent.{Answered, along, answered}
 use Rattle.cover.proofs.witness_of_rows.Statement.{statement}

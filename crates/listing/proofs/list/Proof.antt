@@ -5,15 +5,15 @@ use mathlib.Core.Path.{_≡_, refl, ap}
 use mathlib.Core.List.{List}
 use Prim.Native.Nat.{ℕ}
 use lib.ListN.{length}
-use Rattle.figures.specs.declared.Suite.{Suite}
+use Rattle.limits.specs.declared.Suite.{Suite}
 use Rattle.figures.specs.Refusals.{Outcome, _then_}
-use Rattle.figures.specs.Limits.{suiteSays}
+use Rattle.limits.specs.Limits.{suiteSays}
 use Rattle.figures.proofs.Known.{said}
-use Rattle.suite.specs.Layout.{form1}
-use Rattle.suite.specs.Checks.{fileSays}
+use Rattle.layout.specs.Layout.{form1}
+use Rattle.layout.specs.Checks.{fileSays}
 use Rattle.bench.proofs.Ready.{ready}
 use Rattle.listing.specs.Answers.{listFrom, listOf, listed}
-use Rattle.figures.proofs.Lent.{along, answered}
+use Rattle.laws.proofs.Lent.{along, answered}
 use Rattle.listing.proofs.list.Statement.{statement}
 use Rattle.listing.proofs.list.Tie as tie
 

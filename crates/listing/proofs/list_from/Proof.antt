@@ -11,11 +11,11 @@ use lib.ListN.{length}
 use Rattle.figures.specs.declared.Refusal.the-variants.{NoSuch}
 use Rattle.figures.specs.Refusals.{Outcome, refusal}
 use Rattle.rows.specs.Rows.{Row}
-use Rattle.suite.specs.Layout.{form1, requirementsIn, runsIn}
-use Rattle.suite.specs.Checks.{requirementRowsIn, runWordsIn}
+use Rattle.layout.specs.Layout.{form1, requirementsIn, runsIn}
+use Rattle.layout.specs.Checks.{requirementRowsIn, runWordsIn}
 use Rattle.bench.proofs.Decoded.{rows-inside, lent-length, lent, lent-ready}
 use Rattle.listing.specs.Answers.{pairsOf, rowsListed, listFrom}
-use Rattle.figures.proofs.Lent.{Answered, along, answered}
+use Rattle.laws.proofs.Lent.{Answered, along, answered}
 use Rattle.listing.proofs.list_from.Statement.{statement}
 use Rattle.listing.proofs.list_from.Tie as tie
 

@@ -13,21 +13,21 @@ use lib.Seq.{take-length, length-take-le}
 use Rattle.figures.specs.declared.Refusal.the-variants.{ShortOutput}
 use Rattle.figures.specs.Refusals.{Outcome, refusal}
 use Rattle.figures.specs.Refusals.Outcome.{gives}
-use Rattle.figures.proofs.Given.{refused-when, over-means}
-use Rattle.figures.proofs.Order.{test-gives}
+use Rattle.laws.proofs.Given.{refused-when, over-means}
+use Rattle.laws.proofs.Order.{test-gives}
 use Rattle.rows.specs.Rows.{Row}
 use Rattle.rows.specs.Checks.{occurrences}
-use Rattle.suite.specs.Layout.{form1, runsIn}
-use Rattle.suite.specs.Checks.{runWordsIn}
+use Rattle.layout.specs.Layout.{form1, runsIn}
+use Rattle.layout.specs.Checks.{runWordsIn}
 use Rattle.bench.specs.Coverage.{coveredOf, pairsListed, pairBytes}
 use Rattle.bench.specs.Files.{RowsReady, RunsReady}
 use Rattle.bench.specs.Tables.{marked, Marked}
 use Rattle.bench.proofs.Alike.{listed-same}
 use Rattle.bench.proofs.Exactly.{list-fits}
-use Rattle.printing.proofs.Occurring.{few-occurrences}
+use Rattle.covs.proofs.Occurring.{few-occurrences}
 use Rattle.printing.proofs.Written.{Text}
 use Rattle.listing.specs.Answers.{pairsOf, rowsListed}
-use Rattle.figures.proofs.Lent.{Answered, answered}
+use Rattle.laws.proofs.Lent.{Answered, answered}
 use Rattle.listing.proofs.list_rows.Statement.{statement}
 use Rattle.listing.proofs.list_rows.Tie as tie
 

@@ -2,7 +2,7 @@
 -- Assumes nothing.
 use borrow.Author.Needs.{needs}
 use mathlib.Core.Path.{_≡_, subst}
-use Rattle.truth.specs.Truth.{holds}
+use Rattle.signals.specs.Truth.{holds}
 use Rattle.marking.proofs.Decoded.{steps-inside, lent-length, lent, lent-ready}
 use Rattle.marking.proofs.held_by.Statement.{statement}
 use Rattle.marking.proofs.held_by.Tie as tie

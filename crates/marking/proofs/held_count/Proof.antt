@@ -7,12 +7,12 @@ use mathlib.Core.Bool.{Bool}
 use mathlib.Core.List.{List}
 use Prim.Native.Nat.{ℕ, _-_, _≤_}
 use Rattle.figures.specs.Numbers.{below}
-use Rattle.figures.proofs.Below.{length-more}
+use Rattle.laws.proofs.Below.{length-more}
 use Rattle.rows.specs.Rows.{Row}
 use Rattle.rows.proofs.Named.{one-of, at-most-one}
-use Rattle.truth.specs.Truth.{holds}
-use Rattle.suite.specs.Layout.{form1}
-use Rattle.suite.specs.Checks.{runWordsIn}
+use Rattle.signals.specs.Truth.{holds}
+use Rattle.layout.specs.Layout.{form1}
+use Rattle.layout.specs.Checks.{runWordsIn}
 use Rattle.bench.specs.Coverage.{size}
 use Rattle.marking.proofs.held_count.Statement.{statement}
 use Rattle.marking.proofs.held_count.Tie as tie

@@ -8,7 +8,7 @@ use mathlib.Core.List.{List}
 use Prim.Native.Nat.{ℕ, _+_, _*_, _-_, _≤_, _<_}
 use native.Mathlib.Decide.{ℕ-discrete}
 use lib.ListN.{length, set, length-set}
-use Rattle.figures.specs.Limits.{mostRuns}
+use Rattle.limits.specs.Limits.{mostRuns}
 use Rattle.bench.specs.Tables.{marked, markOf}
 use Rattle.bench.proofs.Cells.{cell-same, cell-other}
 use Rattle.marking.proofs.mark_run.Statement.{statement}

@@ -8,10 +8,10 @@ use mathlib.Core.List.{List}
 use Prim.Native.Nat.{ℕ, _+_, _-_, _≤_, _<_}
 use native.Mathlib.Decide.{ℕ-discrete}
 use lib.ListN.{length}
-use Rattle.figures.specs.Limits.{mostRuns}
+use Rattle.limits.specs.Limits.{mostRuns}
 use Rattle.rows.specs.Rows.{Row}
-use Rattle.suite.specs.Layout.{form1}
-use Rattle.suite.specs.Checks.{runWordsIn}
+use Rattle.layout.specs.Layout.{form1}
+use Rattle.layout.specs.Checks.{runWordsIn}
 use Rattle.bench.specs.Tables.{marked, markOf, Marked, ColumnMarked}
 use Rattle.marking.proofs.marks_of.Statement.{statement}
 use Rattle.marking.proofs.marks_of.Tie as tie

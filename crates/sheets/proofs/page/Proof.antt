@@ -10,7 +10,7 @@ use lib.Seq.{take-length}
 use Rattle.figures.specs.declared.Refusal.the-variants.{ShortOutput}
 use Rattle.figures.specs.Refusals.{refusal}
 use Rattle.figures.specs.Refusals.Outcome.{gives}
-use Rattle.figures.proofs.Lent.{Answered, answered}
+use Rattle.laws.proofs.Lent.{Answered, answered}
 use Rattle.lines.specs.Lines.{Put}
 use Rattle.sheets.specs.Answers.{textOf, pageText}
 use Rattle.sheets.proofs.Filled.{inside, front-is, lent-length}

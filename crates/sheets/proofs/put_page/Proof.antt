@@ -6,14 +6,14 @@ use mathlib.Core.Path.{_≡_, _∙_, subst}
 use mathlib.Core.List.{List}
 use Prim.Native.Nat.{ℕ}
 use lib.ListN.{length}
-use Rattle.figures.specs.declared.Suite.{Suite}
+use Rattle.limits.specs.declared.Suite.{Suite}
 use Rattle.figures.specs.Refusals.{Outcome}
-use Rattle.figures.specs.Limits.{suiteSays}
+use Rattle.limits.specs.Limits.{suiteSays}
 use Rattle.figures.proofs.Known.{said}
 use Rattle.io.specs.Counts.{Counts}
 use Rattle.lines.specs.Lines.{Put}
-use Rattle.suite.specs.Layout.{form1}
-use Rattle.suite.specs.Checks.{fileSays}
+use Rattle.layout.specs.Layout.{form1}
+use Rattle.layout.specs.Checks.{fileSays}
 use Rattle.bench.proofs.Ready.{ready}
 use Rattle.sheets.specs.Answers.{sheetOfFile, pageBy, pageText}
 use Rattle.sheets.proofs.Filled.{inside, lent-length}

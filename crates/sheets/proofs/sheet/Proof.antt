@@ -5,14 +5,14 @@ use mathlib.Core.Path.{_≡_, refl, sym, ap, subst}
 use mathlib.Core.List.{List}
 use Prim.Native.Nat.{ℕ}
 use lib.ListN.{length}
-use Rattle.figures.specs.declared.Suite.{Suite}
+use Rattle.limits.specs.declared.Suite.{Suite}
 use Rattle.figures.specs.Refusals.{Outcome, _then_}
 use Rattle.figures.specs.Refusals.Outcome.{gives}
-use Rattle.figures.specs.Limits.{suiteSays}
+use Rattle.limits.specs.Limits.{suiteSays}
 use Rattle.figures.proofs.Known.{said}
-use Rattle.figures.proofs.Lent.{Answered, along, answered}
-use Rattle.suite.specs.Layout.{form1}
-use Rattle.suite.specs.Checks.{fileSays}
+use Rattle.laws.proofs.Lent.{Answered, along, answered}
+use Rattle.layout.specs.Layout.{form1}
+use Rattle.layout.specs.Checks.{fileSays}
 use Rattle.sheets.specs.Answers.{sheetOfFile, pageBy, pageText, textOf, sheetOf}
 use Rattle.sheets.proofs.sheet.Statement.{statement}
 use Rattle.sheets.proofs.sheet.Tie as tie

@@ -4,15 +4,15 @@ use borrow.Author.Needs.{needs}
 use mathlib.Core.Path.{_≡_, sym, _∙_, ap}
 use mathlib.Core.List.{List}
 use Prim.Native.Nat.{ℕ}
-use Rattle.figures.specs.declared.Suite.{Suite}
+use Rattle.limits.specs.declared.Suite.{Suite}
 use Rattle.figures.specs.Refusals.{Outcome, checkSays, _then_}
 use Rattle.figures.specs.Refusals.Outcome.{gives}
-use Rattle.figures.specs.Limits.{suiteSays}
+use Rattle.limits.specs.Limits.{suiteSays}
 use Rattle.figures.proofs.Known.{said}
-use Rattle.suite.specs.Layout.{form1}
-use Rattle.suite.specs.Checks.{ofSuite, contentsOfFile, requirementsOfFile, runsOfFile, fileSays}
-use Rattle.suite.proofs.Right.{contents-give}
-use Rattle.suite.proofs.Sizes.{few-rows, few-steps}
+use Rattle.layout.specs.Layout.{form1}
+use Rattle.layout.specs.Checks.{ofSuite, contentsOfFile, requirementsOfFile, runsOfFile, fileSays}
+use Rattle.suite_laws.proofs.Right.{contents-give}
+use Rattle.suite_laws.proofs.Sizes.{few-rows, few-steps}
 use Rattle.suite.proofs.check.Statement.{statement}
 use Rattle.suite.proofs.check.Tie as tie
 

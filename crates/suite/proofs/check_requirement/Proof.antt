@@ -6,13 +6,13 @@ use mathlib.Core.Path.{_≡_, _∙_, ap, ap₂}
 use mathlib.Core.List.{List}
 use Prim.Native.Nat.{ℕ, _/_, _≤_, _<_}
 use lib.ListN.{length, take}
-use Rattle.figures.specs.Limits.{rowBytes, mostTableRows}
-use Rattle.figures.proofs.Padded.{inside, front, front-length}
+use Rattle.lengths.specs.Lengths.{rowBytes, mostTableRows}
+use Rattle.laws.proofs.Padded.{inside, front, front-length}
 use Rattle.rows.specs.Rows.{row}
-use Rattle.rows.specs.Codec.{rowOf, rowsOf}
-use Rattle.suite.specs.Layout.{form1, requirementsIn, conditionsIn, startIn, countIn, bodyIn}
-use Rattle.suite.specs.Checks.{requirementFrom}
-use Rattle.suite.proofs.Sizes.{rows-fit}
+use Rattle.codec.specs.Codec.{rowOf, rowsOf}
+use Rattle.layout.specs.Layout.{form1, requirementsIn, conditionsIn, startIn, countIn, bodyIn}
+use Rattle.layout.specs.Checks.{requirementFrom}
+use Rattle.suite_laws.proofs.Sizes.{rows-fit}
 use Rattle.suite.proofs.check_requirement.Statement.{statement}
 use Rattle.suite.proofs.check_requirement.Tie as tie
 

@@ -8,14 +8,14 @@ use mathlib.Core.Option.{Option}
 use Rattle.figures.specs.declared.RowPlace.the-variants.{File}
 use Rattle.figures.specs.declared.Refusal.{Refusal}
 use Rattle.figures.specs.declared.Refusal.the-variants.{UnsoundRow, NotRequirement}
-use Rattle.figures.specs.Limits.{rowBytes}
+use Rattle.lengths.specs.Lengths.{rowBytes}
 use Rattle.figures.specs.Refusals.{Outcome, _then_}
 use Rattle.figures.specs.Numbers.{refusedAt}
 use Rattle.figures.proofs.Known.{said}
 use Rattle.rows.specs.Rows.{Row}
 use Rattle.rows.specs.Checks.{foundRow, lowestUnrequired}
-use Rattle.suite.specs.Checks.{offsetOf}
-use Rattle.suite.proofs.Searched.{found-inside}
+use Rattle.layout.specs.Checks.{offsetOf}
+use Rattle.suite_laws.proofs.Searched.{found-inside}
 use borrow.Author.Needs.{needs}
 use Rattle.suite.proofs.check_rows_from.Statement.{statement}
 use Rattle.suite.proofs.check_rows_from.Tie as tie

@@ -6,11 +6,12 @@ use mathlib.Core.Path.{_≡_, _∙_, ap, ap₂}
 use mathlib.Core.List.{List}
 use Prim.Native.Nat.{ℕ, _+_, _*_, _/_, _≤_}
 use lib.ListN.{length, take}
-use Rattle.figures.specs.Limits.{mostSteps}
-use Rattle.figures.proofs.Padded.{inside, front, front-length}
-use Rattle.suite.specs.Layout.{form1, wordSize, littleAt, requirementsIn, conditionsIn, startIn, countIn, bodyIn}
-use Rattle.suite.specs.Checks.{runFrom, wordsOf}
-use Rattle.suite.proofs.Sizes.{steps-fit}
+use Rattle.lengths.specs.Lengths.{mostSteps}
+use Rattle.laws.proofs.Padded.{inside, front, front-length}
+use Rattle.layout.specs.Layout.{form1, wordSize, requirementsIn, conditionsIn, startIn, countIn, bodyIn}
+use Rattle.little.specs.Little.{littleAt}
+use Rattle.layout.specs.Checks.{runFrom, wordsOf}
+use Rattle.suite_laws.proofs.Sizes.{steps-fit}
 use Rattle.suite.proofs.check_run.Statement.{statement}
 use Rattle.suite.proofs.check_run.Tie as tie
 

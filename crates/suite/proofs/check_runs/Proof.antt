@@ -8,9 +8,9 @@ use native.Mathlib.Decide.{ℕ-discrete}
 use Rattle.figures.specs.Refusals.{Outcome, checkSays}
 use Rattle.figures.specs.Refusals.Outcome.{gives}
 use Rattle.figures.proofs.Known.{said}
-use Rattle.suite.specs.Layout.{form1, runsIn}
-use Rattle.suite.specs.Checks.{runOfFile}
-use Rattle.suite.proofs.Turn.{turn-stopped, turn-all, turn-more}
+use Rattle.layout.specs.Layout.{form1, runsIn}
+use Rattle.layout.specs.Checks.{runOfFile}
+use Rattle.suite_laws.proofs.Turn.{turn-stopped, turn-all, turn-more}
 use Rattle.suite.proofs.check_runs.Statement.{statement}
 use Rattle.suite.proofs.check_runs.Tie as tie
 

@@ -10,9 +10,9 @@ use Rattle.figures.specs.declared.Refusal.the-variants.{StrayBit}
 use Rattle.figures.specs.Numbers.{refusedAt}
 use Rattle.figures.proofs.Known.{said}
 use Rattle.truth.specs.Answers.{foundStep}
-use Rattle.suite.specs.Layout.{wordSize}
-use Rattle.suite.specs.Checks.{offsetOf}
-use Rattle.suite.proofs.Searched.{found-inside}
+use Rattle.layout.specs.Layout.{wordSize}
+use Rattle.layout.specs.Checks.{offsetOf}
+use Rattle.suite_laws.proofs.Searched.{found-inside}
 use borrow.Author.Needs.{needs}
 use Rattle.suite.proofs.check_words_from.Statement.{statement}
 use Rattle.suite.proofs.check_words_from.Tie as tie

@@ -1,6 +1,6 @@
 -- `suite::part` meets its contract: a start and a length beyond the end are cut off there.
 -- Assumes nothing.
-use Rattle.suite.proofs.Clamped.{clamped-part}
+use Rattle.suite_laws.proofs.Clamped.{clamped-part}
 use borrow.Author.Needs.{needs}
 use Rattle.suite.proofs.part.Statement.{statement}
 use Rattle.suite.proofs.part.Tie as tie

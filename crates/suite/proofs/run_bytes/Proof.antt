@@ -2,7 +2,7 @@
 -- Assumes nothing.
 use mathlib.Core.Path.{_∙_, ap}
 use Prim.Native.Nat.{_+_}
-use Rattle.suite.specs.Layout.{form1, bodyIn}
+use Rattle.layout.specs.Layout.{form1, bodyIn}
 use borrow.Author.Needs.{needs}
 use Rattle.suite.proofs.run_bytes.Statement.{statement}
 use Rattle.suite.proofs.run_bytes.Tie as tie

@@ -5,14 +5,15 @@ use native.Mathlib.Omega.{arith}
 use mathlib.Core.Path.{_≡_, refl, _∙_, ap, ap₂}
 use Prim.Native.Nat.{ℕ, _*_, _-_, _/_, _≤_}
 use lib.ListN.{length, drop, set, length-take, length-drop}
-use Rattle.figures.specs.Limits.{mostSteps}
+use Rattle.lengths.specs.Lengths.{mostSteps}
 use Rattle.figures.specs.Numbers.{tabulate}
-use Rattle.figures.proofs.Parts.{rest-lent}
-use Rattle.figures.proofs.Padded.{padded-more, padded-front}
+use Rattle.laws.proofs.Parts.{rest-lent}
+use Rattle.laws.proofs.Padded.{padded-more, padded-front}
 use mathlib.Core.List.{List}
-use Rattle.suite.specs.Layout.{littleAt, wordSize}
-use Rattle.suite.specs.Checks.{paddedWords}
-use Rattle.suite.proofs.Little.{read-there}
+use Rattle.little.specs.Little.{littleAt}
+use Rattle.layout.specs.Layout.{wordSize}
+use Rattle.layout.specs.Checks.{paddedWords}
+use Rattle.suite_laws.proofs.Little.{read-there}
 use borrow.Author.Needs.{needs}
 use Rattle.suite.proofs.words_of.Statement.{statement}
 use Rattle.suite.proofs.words_of.Tie as tie

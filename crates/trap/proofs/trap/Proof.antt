@@ -5,11 +5,11 @@ use native.Mathlib.Omega.{arith}
 use mathlib.Core.Path.{sym, _∙_, ap}
 use lib.ListN.{length}
 use Rattle.figures.specs.Refusals.{checkSays, _then_}
-use Rattle.figures.specs.Limits.{mostTableRows}
+use Rattle.lengths.specs.Lengths.{mostTableRows}
 use Rattle.figures.proofs.Known.{said}
-use Rattle.rows.specs.Codec.{rowsOf}
-use Rattle.rows.proofs.Bytes.{decoded-front, length-padded, length-rowsOf}
-use Rattle.rows.proofs.Sized.{requirement-sized}
+use Rattle.codec.specs.Codec.{rowsOf}
+use Rattle.codec.proofs.Bytes.{decoded-front, length-padded, length-rowsOf}
+use Rattle.row_laws.proofs.Sized.{requirement-sized}
 use Rattle.trap.specs.Answers.{rowsTrap, trapOf, lentAfter, trapBytes, rowsLent}
 use Rattle.trap.proofs.trap.Statement.{statement}
 use Rattle.trap.proofs.trap.Tie as tie

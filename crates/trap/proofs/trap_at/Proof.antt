@@ -6,11 +6,11 @@ use mathlib.Core.Path.{_≡_, sym, _∙_, ap}
 use mathlib.Core.List.{_++_}
 use Prim.Native.Nat.{_+_, _*_, _-_}
 use lib.ListN.{length, take}
-use Rattle.trap.specs.TrapRows.{way, added}
+use Rattle.rules.specs.TrapRows.{way, added}
 use Rattle.trap.specs.Answers.{tableWritten}
 use Rattle.trap.proofs.Output.{too-many, too-short, all-written}
 use Rattle.figures.specs.Refusals.Outcome.{gives}
-use Rattle.figures.specs.Limits.{rowBytes}
+use Rattle.lengths.specs.Lengths.{rowBytes}
 use Rattle.trap.proofs.trap_at.Statement.{statement}
 use Rattle.trap.proofs.trap_at.Tie as tie
 

@@ -5,10 +5,10 @@ use mathlib.Core.Path.{_∙_, ap, ap₂}
 use lib.ListN.{length}
 use Rattle.figures.specs.Refusals.{checkSays, _then_}
 use Rattle.figures.proofs.Known.{said}
-use Rattle.rows.specs.Codec.{bytesOf}
+use Rattle.codec.specs.Codec.{bytesOf}
 use Rattle.rows.specs.Checks.{occurrenceSays, occurrenceOf}
-use Rattle.rows.proofs.Occurring.{occurrence-row, occurrence-condition}
-use Rattle.trap.specs.TrapRows.{trapTable}
+use Rattle.row_laws.proofs.Occurring.{occurrence-row, occurrence-condition}
+use Rattle.rules.specs.TrapRows.{trapTable}
 use Rattle.trap.specs.Answers.{trapFor, lentAfter, trapBytes}
 use Rattle.trap.proofs.trap_of_rows.Statement.{statement}
 use Rattle.trap.proofs.trap_of_rows.Tie as tie

@@ -7,10 +7,10 @@ use Rattle.figures.specs.declared.StepPlace.the-variants.{Lone}
 use Rattle.figures.specs.declared.Refusal.{Refusal}
 use Rattle.figures.specs.declared.Refusal.the-variants.{StrayBit}
 use Rattle.figures.specs.Refusals.{_then_}
-use Rattle.figures.specs.Limits.{runSays}
+use Rattle.lengths.specs.Lengths.{runSays}
 use Rattle.figures.specs.Numbers.{refusedAt}
 use Rattle.figures.proofs.Known.{said}
-use Rattle.truth.specs.Truth.{lowestStray}
+use Rattle.signals.specs.Truth.{lowestStray}
 use Rattle.truth.specs.Answers.{foundStep}
 use Rattle.truth.proofs.check_run.Statement.{statement}
 use Rattle.truth.proofs.check_run.Tie as tie

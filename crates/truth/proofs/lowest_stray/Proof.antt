@@ -8,8 +8,8 @@ use mathlib.Core.Path.{sym, _∙_}
 use Prim.Native.Nat.{ℕ, _-_}
 use borrow.Author.Tests.{not-true, not-false}
 use lib.ListN.{length, getD}
-use Rattle.figures.proofs.Lowest.{Holds, passed-none, passed-more, stopped-at, passed-all}
-use Rattle.truth.specs.Truth.{wordSound}
+use Rattle.laws.proofs.Lowest.{Holds, passed-none, passed-more, stopped-at, passed-all}
+use Rattle.signals.specs.Truth.{wordSound}
 use Rattle.truth.proofs.lowest_stray.Statement.{statement}
 use Rattle.truth.proofs.lowest_stray.Tie as tie
 

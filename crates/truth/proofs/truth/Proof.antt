@@ -5,12 +5,12 @@ use native.Mathlib.Omega.{arith}
 use mathlib.Core.Path.{sym, _∙_, ap}
 use lib.ListN.{length}
 use Rattle.figures.specs.Refusals.{checkSays, _then_}
-use Rattle.figures.specs.Limits.{mostTableRows}
+use Rattle.lengths.specs.Lengths.{mostTableRows}
 use Rattle.figures.proofs.Known.{said}
-use Rattle.rows.specs.Codec.{rowsOf}
-use Rattle.rows.proofs.Bytes.{decoded-front, length-padded, length-rowsOf}
+use Rattle.codec.specs.Codec.{rowsOf}
+use Rattle.codec.proofs.Bytes.{decoded-front, length-padded, length-rowsOf}
 use Rattle.truth.specs.Answers.{rowsSay, truthSays}
-use Rattle.rows.proofs.Sized.{table-sized}
+use Rattle.row_laws.proofs.Sized.{table-sized}
 use Rattle.truth.proofs.truth.Statement.{statement}
 use Rattle.truth.proofs.truth.Tie as tie
 

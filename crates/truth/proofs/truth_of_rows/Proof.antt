@@ -5,7 +5,7 @@ use mathlib.Core.Path.{sym, _∙_}
 use Rattle.figures.specs.Refusals.{checkSays, _then_}
 use Rattle.figures.specs.Refusals.Outcome.{gives}
 use Rattle.figures.proofs.Known.{known, said}
-use Rattle.truth.specs.Truth.{holds}
+use Rattle.signals.specs.Truth.{holds}
 use Rattle.truth.specs.Answers.{runChecked}
 use Rattle.truth.proofs.Accepted.{fit, some-step}
 use Rattle.truth.proofs.truth_of_rows.Statement.{statement}

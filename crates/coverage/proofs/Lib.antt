@@ -1,0 +1,4 @@
+pub mod Monotone
+pub mod Extreme
+pub mod WitnessFlips
+pub mod Theorems

@@ -1,3 +1,0 @@
-pub mod Layout
-pub mod Written
-pub mod Checks
