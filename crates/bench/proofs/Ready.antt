@@ -12,7 +12,7 @@ use Rattle.laws.proofs.Order.{both-pass, lowest-passes}
 use Rattle.laws.proofs.Passed.{Within}
 use Rattle.codec.proofs.Bytes.{length-rowsOf}
 use Rattle.row_laws.proofs.Sound.{requirement}
-use Rattle.truth.proofs.Accepted.{fit}
+use Rattle.truth.proofs.Accepted.{fit-in}
 use Rattle.layout.specs.Layout.{form1, wordSize, conditionsIn, requirementsIn, runsIn, startIn, countIn, bodySize, bodyIn}
 use Rattle.layout.specs.Checks.{ofSuite, requirementRowsIn, runWordsIn, fileSays}
 use Rattle.suite_laws.proofs.Inside.{length-body}
@@ -52,7 +52,7 @@ module _ (file : List ℕ) (right : FileRight form1 file) where
       let passed = both-pass _ _ .0 (passes-in-file conditions rows (startIn form1 file q) rowBytes .0 (right .requirements q l)) in
       let counted = rows-counted q l in
       record {
-        fit = fit conditions rows (passed .0) (contents .conditions .1) (omega (arith, counted .1));
+        fit = fit-in mostRequirementRows conditions rows (passed .0) (contents .conditions .1) (counted .1);
         is = requirement rows conditions (lowest-passes _ (length rows) _ .0 (passed .0)) (lowest-passes _ (length rows) _ .0 (passed .1));
         some-row = counted .0;
         few-rows = counted .1;

@@ -6,7 +6,7 @@ use lib.ListN.{length}
 use Rattle.limits.specs.Limits.{mostConditions, mostRequirements, mostRuns}
 use Rattle.lengths.specs.Lengths.{mostRequirementRows, mostSteps}
 use Rattle.rows.specs.Checks.{IsRequirement}
-use Rattle.signals.specs.Column.{Fit}
+use Rattle.signals.specs.Column.{FitIn}
 use Rattle.layout.specs.Layout.{form1, conditionsIn, requirementsIn, runsIn, countIn}
 use Rattle.layout.specs.Checks.{requirementRowsIn, runWordsIn}
 use Rattle.bench.specs.Coverage.{Bench}
@@ -23,7 +23,7 @@ benchOf ours theirs =
 
 -- a requirement's rows that passed the checks, and a run's words
 pub record RowsReady (rows : List (List ℕ)) : Type 0 where
-  pub fit : Fit rows
+  pub fit : FitIn mostRequirementRows rows
   pub is : IsRequirement rows
   pub some-row : 1 ≤ length rows
   pub few-rows : length rows ≤ mostRequirementRows

@@ -12,7 +12,8 @@ use lengths::Table;
 use signals::Flip;
 use signals::Reads;
 
-fn index_of(field: u16) -> usize
+// A field of a row as a place in a column.
+pub fn index_of(field: u16) -> usize
     ensures { λ r. ⌜ r ≡ field ⌝ }
 {
     field as usize

@@ -13,6 +13,7 @@ ghost use Rattle.bench.specs.Coverage.{inOrder, readsCondition, conditionRead};
 ghost use Rattle.bench.specs.Sheet.{blockFrom, blockOf, condLine, answerBy, sheetText};
 ghost use Rattle.bench.specs.Tables.{noted, RequirementNoted, SuiteNoted};
 ghost use Rattle.bench.specs.Files.{benchOf, RowsReady, RequirementsReady, RunsReady};
+use bench::Marks;
 use bench::Notes;
 use figures::ByteCount;
 use figures::ConditionCount;
@@ -38,9 +39,9 @@ fn put_block_of(
     ensures { λ _. ⌜ Put (now (out .entry)) (at .0) (blockFrom (now (rows .entry)) (runs .0) (runWordsIn form1 (now (theirs .entry))) (q .0)) (now (out .exit)) ⌝ }
     ensures { λ _. ⌜ RequirementNoted (now (rows .entry)) (runs .0) (runWordsIn form1 (now (theirs .entry))) (q .0) (now (notes .entry)) (now (notes .exit)) ⌝ }
 {
-    let marks = marking::marks_of(theirs, rows, runs);
+    let mut marks = [false; Marks::MANY];
+    let held = marking::mark_runs(theirs, rows, runs, &mut marks);
     noting::note_marks(&marks, RowCount(rows.len()), runs, q, notes);
-    let held = marking::held_count(theirs, rows, runs);
     let head = printing::put_req_line(q, occurrences::occurrence_count(rows), held, out, at);
     covs::put_covs(q, rows, &marks, runs, out, head)
 }

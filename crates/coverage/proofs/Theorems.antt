@@ -25,11 +25,11 @@ use Rattle.coverage.proofs.WitnessFlips.{witness-flips}
 use Rattle.coverage.proofs.Extreme.{Nearer, extreme}
 
 module _ (rows : List Row) (is : IsRequirement rows) (some-row : 0 < length rows) (n : ℕ) where
-  abbrev Agree : Reading → Reading → Type 0
+  abbrev pub Agree : Reading → Reading → Type 0
   Agree reads reads′ = (r : ℕ) → r < length rows → reads r ≡ reads′ r
 
   -- readings that agree on the table give the same verdict
-  same-verdict : (reads reads′ : Reading) → Agree reads reads′ → verdictOf rows reads n ≡ verdictOf rows reads′ n
+  pub same-verdict : (reads reads′ : Reading) → Agree reads reads′ → verdictOf rows reads n ≡ verdictOf rows reads′ n
   same-verdict reads reads′ same =
       ap (λ (s : Signal). s 0)
       (agree n reads reads′ rows _ _ (is .lower) (truth-model rows reads n (is .lower)) (truth-model rows reads′ n (is .lower)) same

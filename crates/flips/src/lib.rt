@@ -23,7 +23,7 @@ fn negates(row: [u16; 3], p: RowNumber) -> bool
 }
 
 // Whether "not" stands over row p.
-fn under_not(rows: &[[u16; 3]], p: RowNumber) -> bool
+pub fn under_not(rows: &[[u16; 3]], p: RowNumber) -> bool
     ensures { λ b. ⌜ b ≡ witnessBit (now (rows .entry)) (p .0) ⌝ }
 {
     let mut found = false;

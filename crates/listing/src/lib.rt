@@ -7,6 +7,7 @@ ghost use Rattle.layout.specs.Checks.{requirementRowsIn, runWordsIn};
 ghost use Rattle.bench.specs.Files.{RowsReady, RequirementsReady, RunsReady};
 ghost use Rattle.figures.specs.Outputs.{outputSays, lentAfter};
 ghost use Rattle.listing.specs.Answers.{pairsOf, rowsListed, listFrom, listOf, listed};
+use bench::Marks;
 use figures::ByteCount;
 use figures::Output;
 use figures::Refusal;
@@ -35,7 +36,8 @@ fn list_rows(rows: &[[u16; 3]], theirs: &[u8], runs: RunCount, out: &mut [u8]) -
     if out.len() < 2 * (many * runs.0) {
         return Output::Refused(Refusal::ShortOutput);
     }
-    let marks = marking::marks_of(theirs, rows, runs);
+    let mut marks = [false; Marks::MANY];
+    marking::mark_runs(theirs, rows, runs, &mut marks);
     let mut pairs = [0u8; Pairs::BYTES];
     let end = pairs::list_pairs(rows, &marks, runs, &mut pairs, ByteCount(0));
     let count = end.0;

@@ -1,1 +1,3 @@
-pub mod Decoded
+pub mod Stored
+pub mod Numbered
+pub mod Judged

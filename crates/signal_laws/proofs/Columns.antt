@@ -10,18 +10,17 @@ use borrow.Author.Tests.{eqb-false}
 use lib.Dec.{eqb}
 use lib.ListN.{length, getD, set}
 use lib.Seq.{getD-set-same, getD-set-other}
-use Rattle.lengths.specs.Lengths.{mostTableRows}
 use Rattle.rows.specs.Rows.{Kind, Row, kind, first, second, rowAt, named}
 use Rattle.rows.specs.Checks.{All}
 use Rattle.signals.specs.declared.Flip.{Flip}
 use Rattle.signals.specs.declared.Flip.the-variants as flips
 use Rattle.signals.specs.Signals.{Signal}
 use Rattle.signals.specs.Truth.{Reading, ownOf, readsOf, truthOf, sequenceOf}
-use Rattle.signals.specs.Column.{cell, cellOf, Cells, Fit, ownBy, readsAt, readingOf}
+use Rattle.signals.specs.Column.{cell, cellOf, Cells, FitIn, ownBy, readsAt, readingOf}
 use Rattle.signal_laws.proofs.Model.{All-map, lower-induction, truth-model}
 use Rattle.signal_laws.proofs.Cells.{row-cell, cell-cong, cell-last}
 
-module _ (rows : List Row) (own : ℕ → Bool) (after : List Bool) (last : Bool) (fit : Fit rows) where
+module _ {width : ℕ} (rows : List Row) (own : ℕ → Bool) (after : List Bool) (last : Bool) (fit : FitIn width rows) where
   -- a value stored at m changes no cell of a row up to m
   stored :
       (here : List Bool) (m : ℕ) (x : Bool) (r : ℕ) → r < length rows → r ≤ m →
@@ -32,7 +31,7 @@ module _ (rows : List Row) (own : ℕ → Bool) (after : List Bool) (last : Bool
       (All-map (named (rowAt rows r)) (λ k q. (sym (getD-set-other here m k x false (λ e. omega arith)), refl)) (fit .lower r l))
 
   pub grown :
-      (here : List Bool) (m : ℕ) (x : Bool) → m < length rows → length here ≡ mostTableRows → Cells rows own after last here m →
+      (here : List Bool) (m : ℕ) (x : Bool) → m < length rows → length here ≡ width → Cells rows own after last here m →
       x ≡ cellOf (rowAt rows m) (own m) here after m last → Cells rows own after last (set here m x) (m + 1)
   grown here m x l size cells e r h = go (ℕ-discrete r m)
     where
@@ -47,7 +46,7 @@ module _ (rows : List Row) (own : ℕ → Bool) (after : List Bool) (last : Bool
 abbrev pub Right : List Row → Reading → ℕ → ℕ → List Bool → Type 0
 Right rows reads n i here = (r : ℕ) → r < length rows → getD here r false ≡ truthOf rows reads n r i
 
-module _ (rows : List Row) (fit : Fit rows) (reads : Reading) (n i : ℕ) (l : i < n) (here after : List Bool) where
+module _ {width : ℕ} (rows : List Row) (fit : FitIn width rows) (reads : Reading) (n i : ℕ) (l : i < n) (here after : List Bool) where
   abbrev t : ℕ → Signal
   t = truthOf rows reads n
 

@@ -43,12 +43,15 @@ cellOf row own here after r last =
 abbrev pub Cells : List Row → (ℕ → Bool) → List Bool → Bool → List Bool → ℕ → Type 0
 Cells rows own after last here m = (r : ℕ) → r < m → getD here r false ≡ cellOf (rowAt rows r) (own r) here after r last
 
--- rows that the engine can take: a column holds them, and they name lower rows
-pub record Fit (rows : List Row) : Type 0 where
-  pub few : length rows ≤ mostTableRows
-  pub first-inside : (r : ℕ) → r < length rows → first (rowAt rows r) < mostTableRows
-  pub second-inside : (r : ℕ) → r < length rows → second (rowAt rows r) < mostTableRows
+-- rows that the engine can take: a column of such a width holds them, and they name lower rows
+pub record FitIn (width : ℕ) (rows : List Row) : Type 0 where
+  pub few : length rows ≤ width
+  pub first-inside : (r : ℕ) → r < length rows → first (rowAt rows r) < width
+  pub second-inside : (r : ℕ) → r < length rows → second (rowAt rows r) < width
   pub lower : (r : ℕ) → r < length rows → All (λ k. k < r) (named (rowAt rows r))
+
+abbrev pub Fit : List Row → Type 0
+Fit = FitIn mostTableRows
 
 -- what a condition row reads at a step, from its word or, at a flipped row, a value of its own
 abbrev pub readOf : Reads → ℕ → ℕ → Bool

@@ -35,24 +35,21 @@ module _ (rows : List Row) (runs : ℕ) (words : ℕ → List ℕ) (q : ℕ) (ma
   block few many-is held-is head covs =
       same-text 26646 (ap₂ _++_ (ap₂ (reqLine q) many-is held-is) lines-are) (within (omega arith) (then-text 22 (832 * length rows) head covs))
 
-marks-of-requires : tie.Need-marks-of-requires
-marks-of-requires c κs = search needs
+mark-runs-requires : tie.Need-mark-runs-requires
+mark-runs-requires c κs = search needs
 
 note-marks-requires : tie.Need-note-marks-requires
 note-marks-requires c κs = search needs
-
-held-count-requires : tie.Need-held-count-requires
-held-count-requires c κs = search needs
 
 occurrence-count-requires : tie.Need-occurrence-count-requires
 occurrence-count-requires c κs = search needs
 
 put-req-line-requires : tie.Need-put-req-line-requires
 put-req-line-requires c κs =
-    let held = c .before .before in
-    let start = held .before .before .before .before .before .before .before in
+    let made = c .before .before .before .before .before in
+    let start = made .before .before .before .before in
     let few = few-occurrences (start .args .rows .now) in
-    (omega arith, omega (arith, c .before .occurrence-count .ensures), omega (arith, held .held-count .ensures .1), omega arith)
+    (omega arith, omega (arith, c .before .occurrence-count .ensures), omega (arith, made .mark-runs .ensures .0 .1), omega arith)
 
 put-covs-requires : tie.Need-put-covs-requires
 put-covs-requires c κs = search needs
@@ -65,23 +62,22 @@ returns c =
     let covs = c .before .before in
     let line = covs .before .before .before .before .before in
     let count = line .before .before in
-    let held = count .before in
-    let notes = held .before in
+    let notes = count .before in
     let made = notes .before .before .before in
-    let start = made .before .before .before in
+    let start = made .before .before .before .before in
+    let right = made .mark-runs .ensures .1 .1 in
     and-also
-    (block (start .args .rows .now) (start .args .runs .0) (runWordsIn form1 (start .args .theirs .now)) (start .args .q .0) (made .marks-of .result)
-    (made .marks-of .ensures .1) (start .pre .0 .few-rows) (count .occurrence-count .ensures) (held .held-count .ensures .0)
+    (block (start .args .rows .now) (start .args .runs .0) (runWordsIn form1 (start .args .theirs .now)) (start .args .q .0)
+    (made .mark-runs .last .1 .1 .1 .0) right (start .pre .0 .few-rows) (count .occurrence-count .ensures) (made .mark-runs .ensures .0 .0)
     (line .put-req-line .ensures) (covs .put-covs .ensures))
-    (requirement-noted (made .marks-of .ensures .1) (notes .note-marks .ensures))
+    (requirement-noted right (notes .note-marks .ensures))
 
 pub put-block-of-spec : {M : Type 1} → statement M
 put-block-of-spec =
     tie.close
     (tie.spec
-    marks-of-requires
+    mark-runs-requires
     note-marks-requires
-    held-count-requires
     occurrence-count-requires
     put-req-line-requires
     put-covs-requires

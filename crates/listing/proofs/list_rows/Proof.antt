@@ -97,8 +97,8 @@ returns c =
     too-short (start .args .rows .now) (start .args .runs .0) (runWordsIn form1 (start .args .theirs .now)) (start .args .out .now)
     (c .before .before .occurrence-count .ensures) (c .if1 .taken)
 
-marks-of-requires : tie.Need-marks-of-requires
-marks-of-requires c κs = search needs
+mark-runs-requires : tie.Need-mark-runs-requires
+mark-runs-requires c κs = search needs
 
 slice-aggregate-list-pairs : tie.Need-slice-aggregate-list-pairs
 slice-aggregate-list-pairs c = search needs
@@ -115,13 +115,13 @@ slice-aggregate-copy c = sym (length-take-le _ _ (omega arith))
 copy-requires : tie.Need-copy-requires
 copy-requires c κs =
     let put = c .before .before .before in
-    let test = put .before .before .before .before in
+    let test = put .before .before .before .before .before in
     let start = test .before .before .before .before .before in
     let rows = start .args .rows .now in
     let runs = start .args .runs .0 in
     let words = runWordsIn form1 (start .args .theirs .now) in
-    let made = put .before .before .before .marks-of in
-    fits rows runs words (made .result) (made .ensures .1) (put .list-pairs .ensures) (test .before .before .occurrence-count .ensures)
+    let made = put .before .before .before .mark-runs in
+    fits rows runs words (made .last .1 .1 .1 .0) (made .ensures .1 .1) (put .list-pairs .ensures) (test .before .before .occurrence-count .ensures)
     (test .if1 .left)
 
 same-length : tie.Need-same-length
@@ -130,15 +130,15 @@ same-length c = search needs
 returns-2 : tie.Need-returns-2
 returns-2 c =
     let put = c .before .before .before .before .before .before in
-    let test = put .before .before .before .before in
+    let test = put .before .before .before .before .before in
     let start = test .before .before .before .before .before in
     let rows = start .args .rows .now in
     let runs = start .args .runs .0 in
     let words = runWordsIn form1 (start .args .theirs .now) in
-    let made = put .before .before .before .marks-of in
+    let made = put .before .before .before .mark-runs in
     written rows runs words (start .args .out .now) (test .before .before .occurrence-count .ensures) (test .if1 .left)
-    (end-is rows runs words (made .result) (made .ensures .1) (put .list-pairs .ensures))
-    (front-is rows runs words (made .result) (made .ensures .1) (put .list-pairs .ensures))
+    (end-is rows runs words (made .last .1 .1 .1 .0) (made .ensures .1 .1) (put .list-pairs .ensures))
+    (front-is rows runs words (made .last .1 .1 .1 .0) (made .ensures .1 .1) (put .list-pairs .ensures))
     (c .before .before .copy .ensures .1)
 
 pub list-rows-spec : {M : Type 1} → statement M
@@ -149,7 +149,7 @@ list-rows-spec =
     mul-if1
     mul-if1-2
     returns
-    marks-of-requires
+    mark-runs-requires
     slice-aggregate-list-pairs
     list-pairs-requires
     array-share-prefix-pairs

@@ -3,14 +3,25 @@
 use borrow.Author.Needs.{needs}
 use native.Mathlib.Omega.{arith}
 use mathlib.Core.Path.{_≡_, refl, sym, _∙_, subst}
-use mathlib.Core.Bool.{Bool}
+use mathlib.Core.Bool.{Bool, not, _&&_}
 use mathlib.Core.List.{List}
 use Prim.Native.Nat.{ℕ, _+_, _*_, _-_, _≤_, _<_}
 use native.Mathlib.Decide.{ℕ-discrete}
 use lib.ListN.{length, set, length-set}
+use Rattle.figures.specs.Numbers.{below}
 use Rattle.limits.specs.Limits.{mostRuns}
+use Rattle.lengths.specs.Lengths.{mostRequirementRows}
+use Rattle.laws.proofs.Below.{length-more}
+use Rattle.rows.specs.Rows.{Row}
+use Rattle.rows.specs.Checks.{conditionAt, occurrences}
+use Rattle.rows.proofs.Named.{one-of}
+use Rattle.layout.specs.Checks.{wordsOf}
+use Rattle.lanes.specs.Lanes.{laneCount, lane}
 use Rattle.bench.specs.Tables.{marked, markOf}
 use Rattle.bench.proofs.Cells.{cell-same, cell-other}
+use Rattle.bench.proofs.Sizes.{size-most}
+use Rattle.marking.specs.Flipped.{numberIn, recorded}
+use Rattle.marking.proofs.Judged.{held-is, mark-is}
 use Rattle.marking.proofs.mark_run.Statement.{statement}
 use Rattle.marking.proofs.mark_run.Tie as tie
 
@@ -37,27 +48,55 @@ module _ (j : ℕ) (in-width : j < mostRuns) (marks : List Bool) (p : ℕ) (v : 
   others-stay before others k i l apart =
       cell-other mostRuns marks p j v k i in-width l (λ _ q. apart q) ∙ others k i l apart
 
+-- the value that is stored, from what the calls gave
+stored-mark :
+    {reads held there : Bool} {o : ℕ} (rows : List Row) (run : List ℕ) (v p : ℕ) → reads ≡ conditionAt rows p → held ≡ lane v recorded →
+    there ≡ lane v o → o ≡ numberIn rows p → (conditionAt rows p && (lane v recorded && not (lane v (numberIn rows p)))) ≡ markOf rows run p →
+    (reads && (held && not there)) ≡ markOf rows run p
+stored-mark rows run v p reads-is held-is there-is o-is is = rw (reads-is, held-is, there-is, o-is) is
+
+-- few enough for the lanes
+few : (rows : List Row) → length rows ≤ mostRequirementRows → length (occurrences rows) < laneCount
+few rows l = omega (arith, size-most (length rows) (conditionAt rows))
+
 abbrev Inv-loop : tie.InvT-loop
-Inv-loop rows run marks₀ column p₀ marks p =
-    (p ≤ length rows) × (length marks ≡ 2048) × Here (markOf rows run) column marks p × Others column marks₀ marks
+Inv-loop rows keep flips run marks₀ verdicts held column o₀ p₀ marks o p =
+    (p ≤ length rows) × (o ≡ numberIn rows p) × (o ≤ p) × (length marks ≡ 2048) × Here (markOf rows (wordsOf run)) column marks p
+    × Others column marks₀ marks
 
 abbrev μ-loop : tie.MeasureT-loop
-μ-loop rows run marks₀ column p₀ marks p = length rows - p
+μ-loop rows keep flips run marks₀ verdicts held column o₀ p₀ marks o p = length rows - p
+
+judge-lanes-requires : tie.Need-judge-lanes-requires Inv-loop μ-loop
+judge-lanes-requires c κs = search needs
+
+in-lane-requires : tie.Need-in-lane-requires Inv-loop μ-loop
+in-lane-requires c κs = search needs
 
 loop-holds : tie.Need-loop-holds Inv-loop μ-loop
-loop-holds c = (search needs, c .before .pre .3, λ k l. absurd (omega arith), λ k i l apart. refl)
+unfolding below
+loop-holds c = (search needs, refl, search needs, c .before .before .before .pre .4, λ k l. absurd (omega arith), λ k i l apart. refl)
 
-mark-of-requires : tie.Need-mark-of-requires Inv-loop μ-loop
-mark-of-requires c κs = search needs
+is-condition-requires : tie.Need-is-condition-requires Inv-loop μ-loop
+is-condition-requires c κs = search needs
+
+in-lane-requires-2 : tie.Need-in-lane-requires-2 Inv-loop μ-loop
+in-lane-requires-2 c κs = search needs
 
 mul-marks : tie.Need-mul-marks Inv-loop μ-loop
-mul-marks c = omega (arith, c .before .before .before .before .pre .0 .few-rows)
+mul-marks c = search needs
 
 add-marks : tie.Need-add-marks Inv-loop μ-loop
-add-marks c = omega (arith, c .before .before .before .before .pre .0 .few-rows)
+add-marks c = search needs
 
 element-write-marks : tie.Need-element-write-marks Inv-loop μ-loop
-element-write-marks c = omega (arith, c .before .before .before .before .pre .0 .few-rows)
+element-write-marks c = search needs
+
+one-if-requires : tie.Need-one-if-requires Inv-loop μ-loop
+one-if-requires c κs = search needs
+
+add-o : tie.Need-add-o Inv-loop μ-loop
+add-o c = search needs
 
 add-p : tie.Need-add-p Inv-loop μ-loop
 add-p c = search needs
@@ -67,20 +106,42 @@ loop-less c = search needs
 
 loop-again : tie.Need-loop-again Inv-loop μ-loop
 loop-again c =
-    let q = c .before .before .loop in
-    let start = c .before .before .before .before in
+    let q = c .before .before .before .before .loop in
+    let held = c .before .before .before .before .before in
+    let start = c .before .before .before .before .before .before .before .before in
+    let rows = start .args .rows .now in
+    let run = wordsOf (start .args .run .now) in
+    let reads = c .before .before .is-condition in
+    let ready = start .pre .0 in
+    let judged = held .before .judge-lanes in
     let j = start .args .j .0 in
-    let in-width = start .pre .2 in (
+    let in-width = start .pre .3 in
+    let more = length-more (conditionAt rows) (q .p) in
+    let here = one-of (reads .ensures) in
+    let is = mark-is rows (ready .is) (ready .some-row) (few rows (ready .few-rows)) (start .args .keep .now) (start .args .flips .now) (start .pre .1)
+    run (judged .result) (judged .ensures) (start .pre .2 .some-step) (q .p) (omega arith) in (
       omega arith,
-      length-set (q .marks) _ _ ∙ q .inv .1,
-      here-more j in-width (q .marks) (q .p) _ _ (omega (arith, start .pre .0 .few-rows)) (q .inv .2) (c .mark-of .ensures),
-      others-stay j in-width (q .marks) (q .p) _ (start .args .marks .now) (q .inv .3),
+      omega (arith, c .one-if .ensures .0, more, here),
+      omega (arith, c .one-if .ensures .1),
+      length-set (q .marks) _ _ ∙ q .inv .3,
+      here-more j in-width (q .marks) (q .p) _ _ (omega (arith, ready .few-rows)) (q .inv .4)
+          (stored-mark rows run (judged .result) (q .p) (reads .ensures) (held .in-lane .ensures) (c .before .in-lane2 .ensures) (q .inv .1) is),
+      others-stay j in-width (q .marks) (q .p) _ (start .args .marks .now) (q .inv .5),
     )
 
 returns : tie.Need-returns Inv-loop μ-loop
 returns c =
     let q = c .before .loop in
-    record { same-length = q .inv .1 ∙ sym (c .before .before .before .pre .3); here = λ p l. q .inv .2 p (omega arith); others = q .inv .3 }
+    let held = c .before .before in
+    let start = c .before .before .before .before .before in
+    let rows = start .args .rows .now in
+    let ready = start .pre .0 in
+    let judged = held .before .judge-lanes in (
+      held .in-lane .ensures
+          ∙ held-is rows (ready .is) (ready .some-row) (few rows (ready .few-rows)) (start .args .keep .now) (start .args .flips .now) (start .pre .1)
+          (wordsOf (start .args .run .now)) (judged .result) (judged .ensures),
+      record { same-length = q .inv .3 ∙ sym (start .pre .4); here = λ p l. q .inv .4 p (omega arith); others = q .inv .5 },
+    )
 
 pub mark-run-spec : {M : Type 1} → statement M
 mark-run-spec =
@@ -88,11 +149,16 @@ mark-run-spec =
     (tie.spec
     Inv-loop
     μ-loop
+    judge-lanes-requires
+    in-lane-requires
     loop-holds
-    mark-of-requires
+    is-condition-requires
+    in-lane-requires-2
     mul-marks
     add-marks
     element-write-marks
+    one-if-requires
+    add-o
     add-p
     loop-less
     loop-again
