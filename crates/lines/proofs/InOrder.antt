@@ -7,10 +7,10 @@ use native.Mathlib.Nat.{mul-add, mul-suc, mul-le-mul-left}
 use native.Mathlib.Numerals.{add-one}
 use native.Mathlib.Omega.{arith}
 use lib.ListN.{length, length-append}
 use Rattle.lines.specs.Lines.{Put}
 use Rattle.lines.proofs.Joined.{put-after}
-use Rattle.bench.specs.Coverage.{inOrder}
-use Rattle.printing.proofs.Written.{Text, left-out}
+use Rattle.lines.specs.Texts.{inOrder}
+use Rattle.lines.proofs.Written.{Text, left-out}
 
 module _ (f : ℕ → List ℕ) where
   pub order-more : (m : ℕ) → inOrder (m + 1) f ≡ inOrder m f ++ f m
