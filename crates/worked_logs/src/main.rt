@@ -156,7 +156,12 @@ fn limit_counts() {
     let mut more = [7u32; 2];
     say_taken(b"33 limits", log, &many, &mut more);
     let mut none = [7u32; 2];
-    say_taken(b"no limits, an odd byte", b"\x01\x00\x02", &many[..0], &mut none);
+    say_taken(
+        b"no limits, an odd byte",
+        b"\x01\x00\x02",
+        &many[..0],
+        &mut none,
+    );
 }
 
 // 10, 17 and 14, in that order, and none changes a word.
@@ -165,8 +170,18 @@ fn not_taken() {
     let mut out = [7u32; 2];
     say_taken(b"an odd byte", b"\x01\x00\x01\x80\x00", &limits, &mut out);
     say_taken(b"no log", b"", &limits, &mut out);
-    say_taken(b"half a turn", b"\x01\x00\x01\x00\x01\x80", &limits, &mut out);
-    say_taken(b"a word too few", b"\x01\x00\x01\x00\x01\x00", &limits, &mut out);
+    say_taken(
+        b"half a turn",
+        b"\x01\x00\x01\x00\x01\x80",
+        &limits,
+        &mut out,
+    );
+    say_taken(
+        b"a word too few",
+        b"\x01\x00\x01\x00\x01\x00",
+        &limits,
+        &mut out,
+    );
 }
 
 fn main() {
