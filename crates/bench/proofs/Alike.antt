@@ -11,7 +11,8 @@ use Rattle.rows.specs.Rows.{Row}
 use Rattle.rows.specs.Checks.{conditionAt, occurrences}
 use Rattle.row_laws.proofs.Occurring.{occurrence-there, occurrence-condition}
 use Rattle.signals.specs.Signals.{some}
-use Rattle.bench.specs.Coverage.{sum, inOrder, rowOfOccurrence, pairsListed}
+use Rattle.lines.specs.Texts.{inOrder}
+use Rattle.bench.specs.Coverage.{sum, rowOfOccurrence, pairsListed}
 
 pub order-same : (m : ℕ) {f g : ℕ → List ℕ} → ((k : ℕ) → k < m → f k ≡ g k) → inOrder m f ≡ inOrder m g
 unfolding inOrder

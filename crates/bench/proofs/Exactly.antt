@@ -11,7 +11,8 @@ use lib.ListN.{length}
 use Rattle.figures.specs.Numbers.{below}
 use Rattle.rows.specs.Rows.{Row}
 use Rattle.rows.specs.Checks.{occurrences}
-use Rattle.bench.specs.Coverage.{size, sum, inOrder, rowOfOccurrence, pairsListed}
+use Rattle.lines.specs.Texts.{inOrder}
+use Rattle.bench.specs.Coverage.{size, sum, rowOfOccurrence, pairsListed}
 use Rattle.bench.proofs.Pairwise.{former, latter, Exact, once, exact-none, exact-one, exact-join}
 use Rattle.bench.proofs.Sizes.{size-more, size-most, sum-most}
 

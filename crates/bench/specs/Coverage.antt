@@ -1,11 +1,12 @@
 -- What the list and the sheet count: sets of runs, occurrences and pairs, from truth and coverage. Document 01, "Coverage" and "The bench sheet, whole".
 -- Assumes nothing.
 use mathlib.Core.Bool.{Bool, cond, _&&_}
-use mathlib.Core.List.{List, [], _∷_, _++_}
+use mathlib.Core.List.{List, [], _∷_}
 use Prim.Native.Nat.{ℕ, zero, suc, _+_}
 use lib.Dec.{eqb}
 use lib.ListN.{length, getD}
 use Rattle.figures.specs.Numbers.{below}
+use Rattle.lines.specs.Texts.{inOrder}
 use Rattle.rows.specs.Rows.{Row, first, rowAt}
 use Rattle.rows.specs.Checks.{conditionAt, occurrences}
 use Rattle.signals.specs.Signals.{some}
@@ -28,11 +29,6 @@ size m f = length (below m f)
 unfoldable pub sum : ℕ → (ℕ → ℕ) → ℕ
 sum zero f = 0
 sum (suc m) f = sum m f + f m
-
--- f 0, then f 1, and so on for the numbers below m
-unfoldable pub inOrder : ℕ → (ℕ → List ℕ) → List ℕ
-inOrder zero f = []
-inOrder (suc m) f = inOrder m f ++ f m
 
 -- of one requirement: the pair of the occurrence in row p and run j is covered
 abbrev pub coveredOf : List Row → (ℕ → List ℕ) → ℕ → ℕ → Bool

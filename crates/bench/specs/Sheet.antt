@@ -9,7 +9,8 @@ use Rattle.rows.specs.Rows.{Row}
 use Rattle.rows.specs.Checks.{occurrences}
 use Rattle.bench.specs.declared.ConditionAnswer.{ConditionAnswer}
 use Rattle.bench.specs.declared.ConditionAnswer.the-variants as answer
-use Rattle.bench.specs.Coverage.{Bench, inOrder, heldOf, coveredOf, matteredCount, allOccurrences, conditionRead, conditionCovered, pairsListed}
+use Rattle.lines.specs.Texts.{inOrder}
+use Rattle.bench.specs.Coverage.{Bench, heldOf, coveredOf, matteredCount, allOccurrences, conditionRead, conditionCovered, pairsListed}
 
 -- the sheet's words: `suite`, `req`, `occ`, `held`, `cov`, `cond`, `yes`, `no`, `unused`, `total`
 abbrev pub suiteWord : List ℕ

@@ -1,16 +1,19 @@
-// What every number counts, the places, and the refusals. A number crosses an interface only in one of these types.
+// What every number counts, the places, and the refusals. A number crosses an interface only in one of these types; those marked
+// `#[repr(C)]` cross the C interface too (room `exports`).
 ghost use mathlib.Core.Path.{_≡_};
 ghost use Rattle.figures.specs.Refusals.{numberOf, placeOf, rowPlaceOf, stepPlaceOf, printedPlace};
 
 // Numbers: which one is meant. All count from 0.
 pub struct ConditionNumber(pub usize);
 
+#[repr(C)]
 pub struct OccurrenceNumber(pub usize);
 
 pub struct StepNumber(pub usize);
 
 pub struct RowNumber(pub usize);
 
+#[repr(C)]
 pub struct RequirementNumber(pub usize);
 
 pub struct RunNumber(pub usize);
@@ -19,10 +22,12 @@ pub struct RunNumber(pub usize);
 pub struct ByteOffset(pub usize);
 
 // Counts: how many there are.
+#[repr(C)]
 pub struct ConditionCount(pub usize);
 
 pub struct OccurrenceCount(pub usize);
 
+#[repr(C)]
 pub struct StepCount(pub usize);
 
 pub struct RowCount(pub usize);
@@ -31,15 +36,18 @@ pub struct RequirementCount(pub usize);
 
 pub struct RunCount(pub usize);
 
+#[repr(C)]
 pub struct ByteCount(pub usize);
 
 // Pairs of an occurrence and a run.
 pub struct PairCount(pub usize);
 
 // Which line of document 01's table of refusals is meant, from 1.
+#[repr(C)]
 pub struct RefusalNumber(pub usize);
 
 // A place as a program prints it: the number of the byte, row or step, and 0 for none.
+#[repr(C)]
 pub struct PrintedPlace(pub usize);
 
 // Where a refusal points.

@@ -4,3 +4,6 @@ pub mod Joined
 pub mod Fields
 pub mod Refused
 pub mod Digits
+pub mod Written
+pub mod InOrder
+pub mod Filled

@@ -7,7 +7,9 @@ ghost use lib.ListN.{length};
 ghost use Rattle.figures.specs.Refusals.{numberOf, placeOf};
 ghost use Rattle.lines.specs.Lines.{decimal, refusedLine, Put};
 use figures::ByteCount;
+use figures::Place;
 use figures::Refusal;
+use figures::RefusalNumber;
 
 // A figure as a printed field: the definition of its line says what it counts.
 pub struct Field(pub usize);
@@ -40,13 +42,27 @@ pub fn put_number(n: Field, end: u8, out: &mut [u8], at: ByteCount) -> ByteCount
     put_word(&digits[..many], end, out, at)
 }
 
+// Writes the line of a refusal's number and place.
+pub fn put_refusal_line(
+    number: RefusalNumber,
+    place: Place,
+    out: &mut [u8],
+    at: ByteCount,
+) -> ByteCount
+    requires { ⌜ at .0 + 64 ≤ length (now out) ⌝ }
+    ensures { λ r. ⌜ r .0 ≡ at .0 + length (refusedLine (number .0) place) ⌝ }
+    ensures { λ _. ⌜ Put (now (out .entry)) (at .0) (refusedLine (number .0) place) (now (out .exit)) ⌝ }
+{
+    let word = put_word(b"refused", b' ', out, at);
+    let numbered = put_number(Field(number.0), b' ', out, word);
+    put_number(Field(place.printed().0), b'\n', out, numbered)
+}
+
 // Writes the line of a refusal.
 pub fn put_refused(refusal: Refusal, out: &mut [u8], at: ByteCount) -> ByteCount
     requires { ⌜ at .0 + 64 ≤ length (now out) ⌝ }
     ensures { λ r. ⌜ r .0 ≡ at .0 + length (refusedLine (numberOf refusal) (placeOf refusal)) ⌝ }
     ensures { λ _. ⌜ Put (now (out .entry)) (at .0) (refusedLine (numberOf refusal) (placeOf refusal)) (now (out .exit)) ⌝ }
 {
-    let word = put_word(b"refused", b' ', out, at);
-    let number = put_number(Field(refusal.number().0), b' ', out, word);
-    put_number(Field(refusal.place().printed().0), b'\n', out, number)
+    put_refusal_line(refusal.number(), refusal.place(), out, at)
 }

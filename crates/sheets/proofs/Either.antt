@@ -11,11 +11,12 @@ use Rattle.limits.specs.declared.Suite.{Suite}
 use Rattle.figures.specs.Refusals.{Outcome}
 use Rattle.figures.specs.Refusals.Outcome.{refused, gives}
 use Rattle.lines.specs.Lines.{refusedLine}
+use Rattle.lines.specs.Texts.{pageBy}
 use Rattle.layout.specs.Layout.{form1}
 use Rattle.layout.specs.Checks.{fileSays}
 use Rattle.suite_laws.proofs.Right.{FileRight, file-gives}
 use Rattle.bench.specs.Sheet.{sheetText}
-use Rattle.sheets.specs.Answers.{sheetOfFile, pageBy, pageText}
+use Rattle.sheets.specs.Answers.{sheetOfFile, pageText}
 
 module _ (file : List ℕ) where
   abbrev pub IsSheet : Type 0

@@ -1,36 +1,23 @@
 -- The operations `sheet` and `page`: each refusal is given exactly when document 01 says, no other is, and the text is written exactly where none is.
 -- Assumes nothing.
 use mathlib.Core.Path.{_≡_, refl}
-use mathlib.Core.Logic.{_↔_, _⊎_, inl, inr, Iff·trans, Iff·and, Iff·rfl}
+use mathlib.Core.Logic.{_↔_, _⊎_, inl, inr, Iff·trans, Iff·and}
 use mathlib.Core.List.{List}
 use Prim.Native.Nat.{ℕ, _≤_, _<_}
 use native.Mathlib.Omega.{arith}
-use borrow.Author.Tests.{leb-true, le-leb}
-use lib.Dec.{leb}
 use lib.ListN.{length}
 use Rattle.figures.specs.declared.Place.{Place}
 use Rattle.figures.specs.declared.Place.the-variants as place
-use Rattle.figures.specs.declared.Refusal.the-variants.{ShortOutput}
 use Rattle.figures.specs.Refusals.Outcome.{refused, gives}
-use Rattle.laws.proofs.Given.{refused-when, over-means}
-use Rattle.laws.proofs.Order.{Passes, Numbered, numbered-never, skip-never, stop, passes, test-numbered, test-gives}
+use Rattle.laws.proofs.Order.{Passes, Numbered, numbered-never, skip-never, stop, passes}
+use Rattle.lines.specs.Texts.{textOf}
+use Rattle.lines.proofs.Filled.{text-numbered, text-14, text-written}
 use Rattle.layout.specs.Layout.{form1}
 use Rattle.layout.specs.Checks.{countsOf, fileSays}
 use Rattle.suite_laws.proofs.Given.{OfFile, no-other as file-numbers, never-other}
 use Rattle.suite_laws.proofs.Refused.{refuses-then}
 use Rattle.suite_laws.proofs.Right.{FileRight, file-gives}
-use Rattle.sheets.specs.Answers.{sheetOfFile, pageText, textOf, pageOf, sheetOf}
-
--- a text is refused by 14 alone, exactly where it does not fit
-module _ (text : List ℕ) (room : ℕ) where
-  text-numbered : Numbered (textOf text room) 14
-  text-numbered = test-numbered (length text) ShortOutput (leb (length text) room)
-
-  pub text-14 : (textOf text room ≡ refused 14 place.None) ↔ (room < length text)
-  text-14 = Iff·trans (refused-when (length text) ShortOutput _) (over-means (length text) room)
-
-  pub text-written : (n : ℕ) → (textOf text room ≡ gives n) ↔ ((length text ≤ room) × (length text ≡ n))
-  text-written n = Iff·trans (test-gives (length text) ShortOutput _ n) (Iff·and (leb-true _ room, le-leb _ room) Iff·rfl)
+use Rattle.sheets.specs.Answers.{sheetOfFile, pageText, pageOf, sheetOf}
 
 module _ (file : List ℕ) (room : ℕ) where
   pub page-numbered : Numbered (pageOf file room) 14

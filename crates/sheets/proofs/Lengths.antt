@@ -15,12 +15,13 @@ use Rattle.layout.specs.Layout.{form1}
 use Rattle.suite_laws.proofs.Right.{FileRight}
 use Rattle.bench.specs.declared.ConditionAnswer.{ConditionAnswer}
 use Rattle.bench.specs.declared.ConditionAnswer.the-variants as answer
-use Rattle.bench.specs.Coverage.{Bench, inOrder, coveredOf, heldOf, matteredCount, allOccurrences, rowOfOccurrence}
+use Rattle.lines.specs.Texts.{inOrder}
+use Rattle.bench.specs.Coverage.{Bench, coveredOf, heldOf, matteredCount, allOccurrences, rowOfOccurrence}
 use Rattle.bench.specs.Files.{benchOf, RequirementsReady, RunsReady}
 use Rattle.bench.specs.Sheet.{suiteWord, reqWord, occWord, heldWord, covWord, condWord, totalWord, suiteLine, reqLine, covLine, answerWord, answerOf, condLine, totalLine, covLines, blockFrom, blockOf, sheetText}
 use Rattle.bench.proofs.Ready.{requirements-ready, runs-ready}
 use Rattle.bench.proofs.Sizes.{size-most, sum-most, mattered-few}
-use Rattle.printing.proofs.InOrder.{order-within}
+use Rattle.lines.proofs.InOrder.{order-within}
 use Rattle.covs.proofs.Occurring.{few-occurrences}
 use Rattle.sheets.specs.Answers.{sheetOfFile}
 

@@ -2,4 +2,3 @@ pub mod Unique
 pub mod Given
 pub mod Either
 pub mod Lengths
-pub mod Filled

@@ -1,15 +1,9 @@
 -- What the sheet's operations answer and write: document 01, "The bench sheet, whole" and "Answers by number".
 -- Assumes nothing.
-use mathlib.Core.Bool.{cond}
 use mathlib.Core.List.{List}
 use Prim.Native.Nat.{ℕ}
-use lib.Dec.{leb}
-use lib.ListN.{length}
-use Rattle.figures.specs.declared.Refusal.the-variants.{ShortOutput}
-use Rattle.limits.specs.declared.Suite.{Suite}
-use Rattle.figures.specs.Refusals.{Outcome, refusal, _then_}
-use Rattle.figures.specs.Refusals.Outcome.{refused, gives}
-use Rattle.lines.specs.Lines.{refusedLine}
+use Rattle.figures.specs.Refusals.{Outcome, _then_}
+use Rattle.lines.specs.Texts.{pageBy, textOf}
 use Rattle.layout.specs.Layout.{form1}
 use Rattle.layout.specs.Checks.{fileSays}
 use Rattle.bench.specs.Sheet.{sheetText}
@@ -20,16 +14,8 @@ abbrev pub sheetOfFile : List ℕ → List ℕ
 sheetOfFile file = sheetText (benchOf file file)
 
 -- the program's whole output: the sheet, or where the file is refused the one line that says so
-abbrev pub pageBy : Outcome Suite → List ℕ → List ℕ
-pageBy (refused n p) text = refusedLine n p
-pageBy (gives s) text = text
-
 unfoldable pub pageText : List ℕ → List ℕ
 pageText file = pageBy (fileSays form1 file) (sheetOfFile file)
-
--- 14 for a text: its own length
-abbrev pub textOf : List ℕ → ℕ → Outcome ℕ
-textOf text room = cond (leb (length text) room) (gives (length text)) (refusal ShortOutput)
 
 -- the page, or 14 and nothing else
 abbrev pub pageOf : List ℕ → ℕ → Outcome ℕ

@@ -16,9 +16,8 @@ use Rattle.bench.specs.Sheet.{reqLine, covLine, covLines, blockFrom}
 use Rattle.bench.specs.Tables.{marked, Marked}
 use Rattle.bench.proofs.Alike.{listed-same}
 use Rattle.covs.proofs.Occurring.{few-occurrences}
-use Rattle.printing.proofs.Written.{Text, within}
+use Rattle.lines.proofs.Written.{Text, within, then-text, same-text, and-also}
 use Rattle.composing.proofs.Noted.{requirement-noted}
-use Rattle.composing.proofs.Texts.{then-text, same-text, and-also}
 use Rattle.composing.proofs.put_block_of.Statement.{statement}
 use Rattle.composing.proofs.put_block_of.Tie as tie
 

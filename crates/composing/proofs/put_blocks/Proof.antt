@@ -8,9 +8,9 @@ use lib.ListN.{length}
 use Rattle.bench.specs.Files.{benchOf}
 use Rattle.bench.specs.Sheet.{blockOf}
 use Rattle.bench.specs.Tables.{SuiteNoted}
-use Rattle.printing.proofs.InOrder.{Passed, passed-none, passed-room, passed-more, passed-all}
+use Rattle.lines.proofs.InOrder.{Passed, passed-none, passed-room, passed-more, passed-all}
 use Rattle.composing.proofs.Noted.{suite-more}
-use Rattle.composing.proofs.Texts.{and-also}
+use Rattle.lines.proofs.Written.{and-also}
 use Rattle.composing.proofs.put_blocks.Statement.{statement}
 use Rattle.composing.proofs.put_blocks.Tie as tie
 

@@ -11,9 +11,9 @@ use Rattle.bench.specs.declared.ConditionAnswer.{ConditionAnswer}
 use Rattle.bench.specs.Coverage.{Bench}
 use Rattle.bench.specs.Files.{benchOf}
 use Rattle.bench.specs.Sheet.{condLine}
-use Rattle.printing.proofs.InOrder.{Passed, passed-none, passed-room, passed-more, passed-all}
+use Rattle.lines.proofs.InOrder.{Passed, passed-none, passed-room, passed-more, passed-all}
 use Rattle.composing.proofs.Noted.{notedAnswer}
-use Rattle.composing.proofs.Texts.{same-text}
+use Rattle.lines.proofs.Written.{same-text}
 use Rattle.composing.proofs.put_conds.Statement.{statement}
 use Rattle.composing.proofs.put_conds.Tie as tie
 

@@ -8,14 +8,14 @@ use mathlib.Core.List.{List, _++_}
 use Prim.Native.Nat.{ℕ, _*_}
 use lib.ListN.{length}
 use Rattle.lines.specs.Lines.{Put}
-use Rattle.bench.specs.Coverage.{Bench, size, sum, inOrder, occurrenceCount, matteredCount, allOccurrences}
+use Rattle.lines.specs.Texts.{inOrder}
+use Rattle.bench.specs.Coverage.{Bench, size, sum, occurrenceCount, matteredCount, allOccurrences}
 use Rattle.bench.specs.Files.{benchOf}
 use Rattle.bench.specs.Sheet.{suiteLine, blockOf, answerOf, condLine, totalLine, sheetText}
 use Rattle.bench.specs.Tables.{noted, SuiteNoted}
 use Rattle.bench.proofs.Alike.{order-same}
-use Rattle.printing.proofs.Written.{Text}
+use Rattle.lines.proofs.Written.{Text, then-text, same-text, from-start}
 use Rattle.composing.proofs.Noted.{notedAnswer, counted, answered}
-use Rattle.composing.proofs.Texts.{then-text, same-text, from-start}
 use Rattle.composing.proofs.put_sheet.Statement.{statement}
 use Rattle.composing.proofs.put_sheet.Tie as tie
 

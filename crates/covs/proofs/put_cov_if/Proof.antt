@@ -1,7 +1,7 @@
 -- `covs::put_cov_if` meets its contract: the line is put where the pair is marked, and nothing is where it is not.
 -- Assumes nothing.
 use borrow.Author.Needs.{needs}
-use Rattle.printing.proofs.Written.{left-out}
+use Rattle.lines.proofs.Written.{left-out}
 use Rattle.covs.proofs.put_cov_if.Statement.{statement}
 use Rattle.covs.proofs.put_cov_if.Tie as tie
 

@@ -8,7 +8,7 @@ use lib.ListN.{length}
 use Rattle.lines.specs.Lines.{decimal}
 use Rattle.lines.proofs.Width.{width-2}
 use Rattle.bench.specs.Sheet.{covWord}
-use Rattle.printing.proofs.Written.{room, field, last}
+use Rattle.lines.proofs.Written.{room, field, last}
 use Rattle.covs.proofs.put_cov_line.Statement.{statement}
 use Rattle.covs.proofs.put_cov_line.Tie as tie
 

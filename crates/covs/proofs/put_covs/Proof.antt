@@ -6,11 +6,12 @@ use mathlib.Core.Bool.{Bool, cond}
 use mathlib.Core.List.{List, []}
 use Prim.Native.Nat.{ℕ, _-_}
 use Rattle.rows.specs.Rows.{Row}
-use Rattle.bench.specs.Coverage.{inOrder, rowOfOccurrence}
+use Rattle.lines.specs.Texts.{inOrder}
+use Rattle.bench.specs.Coverage.{rowOfOccurrence}
 use Rattle.bench.specs.Sheet.{covLine}
 use Rattle.bench.specs.Tables.{marked}
-use Rattle.printing.proofs.Written.{within}
-use Rattle.printing.proofs.InOrder.{Passed, passed-none, passed-room, passed-more, passed-all}
+use Rattle.lines.proofs.Written.{within}
+use Rattle.lines.proofs.InOrder.{Passed, passed-none, passed-room, passed-more, passed-all}
 use Rattle.covs.proofs.Occurring.{few-occurrences}
 use Rattle.covs.proofs.put_covs.Statement.{statement}
 use Rattle.covs.proofs.put_covs.Tie as tie

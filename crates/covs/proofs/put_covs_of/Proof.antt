@@ -7,7 +7,7 @@ use mathlib.Core.List.{List, []}
 use Prim.Native.Nat.{ℕ, _-_}
 use Rattle.bench.specs.Sheet.{covLine}
 use Rattle.bench.specs.Tables.{marked}
-use Rattle.printing.proofs.InOrder.{Passed, passed-none, passed-room, passed-more, passed-all}
+use Rattle.lines.proofs.InOrder.{Passed, passed-none, passed-room, passed-more, passed-all}
 use Rattle.covs.proofs.put_covs_of.Statement.{statement}
 use Rattle.covs.proofs.put_covs_of.Tie as tie
 

@@ -25,7 +25,7 @@ use Rattle.bench.specs.Tables.{marked, Marked}
 use Rattle.bench.proofs.Alike.{listed-same}
 use Rattle.bench.proofs.Exactly.{list-fits}
 use Rattle.covs.proofs.Occurring.{few-occurrences}
-use Rattle.printing.proofs.Written.{Text}
+use Rattle.lines.proofs.Written.{Text}
 use Rattle.listing.specs.Answers.{pairsOf, rowsListed}
 use Rattle.laws.proofs.Lent.{Answered, answered}
 use Rattle.listing.proofs.list_rows.Statement.{statement}

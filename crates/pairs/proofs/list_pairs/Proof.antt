@@ -6,10 +6,11 @@ use mathlib.Core.Bool.{Bool, cond}
 use mathlib.Core.List.{List, [], _∷_}
 use Prim.Native.Nat.{ℕ, _-_}
 use Rattle.rows.specs.Rows.{Row}
-use Rattle.bench.specs.Coverage.{inOrder, rowOfOccurrence}
+use Rattle.lines.specs.Texts.{inOrder}
+use Rattle.bench.specs.Coverage.{rowOfOccurrence}
 use Rattle.bench.specs.Tables.{marked}
-use Rattle.printing.proofs.Written.{within}
-use Rattle.printing.proofs.InOrder.{Passed, passed-none, passed-room, passed-more, passed-all}
+use Rattle.lines.proofs.Written.{within}
+use Rattle.lines.proofs.InOrder.{Passed, passed-none, passed-room, passed-more, passed-all}
 use Rattle.covs.proofs.Occurring.{few-occurrences}
 use Rattle.pairs.proofs.list_pairs.Statement.{statement}
 use Rattle.pairs.proofs.list_pairs.Tie as tie

@@ -5,7 +5,7 @@ use native.Mathlib.Omega.{arith}
 use mathlib.Core.Path.{_≡_}
 use Prim.Native.Nat.{_%_}
 use native.Mathlib.Nat.{mod-eq-of-lt}
-use Rattle.printing.proofs.Written.{left-out}
+use Rattle.lines.proofs.Written.{left-out}
 use Rattle.pairs.proofs.put_pair_if.Statement.{statement}
 use Rattle.pairs.proofs.put_pair_if.Tie as tie
 

@@ -3,7 +3,7 @@
 use borrow.Author.Needs.{needs}
 use native.Mathlib.Omega.{arith}
 use Rattle.bench.specs.Sheet.{yesWord, noWord, unusedWord}
-use Rattle.printing.proofs.Written.{last}
+use Rattle.lines.proofs.Written.{last}
 use Rattle.printing.proofs.put_answer.Statement.{statement}
 use Rattle.printing.proofs.put_answer.Tie as tie
 

@@ -8,7 +8,7 @@ use lib.ListN.{length}
 use Rattle.lines.specs.Lines.{decimal}
 use Rattle.lines.proofs.Width.{width-3}
 use Rattle.bench.specs.Sheet.{totalWord}
-use Rattle.printing.proofs.Written.{room, field, last}
+use Rattle.lines.proofs.Written.{room, field, last}
 use Rattle.printing.proofs.put_total_line.Statement.{statement}
 use Rattle.printing.proofs.put_total_line.Tie as tie
 

@@ -5,34 +5,25 @@ use native.Mathlib.Nat.{zero-add}
 use mathlib.Core.Path.{_≡_, _∙_, subst}
 use mathlib.Core.List.{List}
 use Prim.Native.Nat.{ℕ}
-use lib.ListN.{length}
 use Rattle.limits.specs.declared.Suite.{Suite}
 use Rattle.figures.specs.Refusals.{Outcome}
 use Rattle.limits.specs.Limits.{suiteSays}
 use Rattle.figures.proofs.Known.{said}
-use Rattle.io.specs.Counts.{Counts}
-use Rattle.lines.specs.Lines.{Put}
+use Rattle.lines.specs.Texts.{pageBy}
+use Rattle.lines.proofs.Filled.{Filled, filled}
 use Rattle.layout.specs.Layout.{form1}
 use Rattle.layout.specs.Checks.{fileSays}
 use Rattle.bench.proofs.Ready.{ready}
-use Rattle.sheets.specs.Answers.{sheetOfFile, pageBy, pageText}
-use Rattle.sheets.proofs.Filled.{inside, lent-length}
+use Rattle.sheets.specs.Answers.{sheetOfFile, pageText}
 use Rattle.sheets.proofs.put_page.Statement.{statement}
 use Rattle.sheets.proofs.put_page.Tie as tie
 
-module _ (file : List ℕ) where
-  -- the page from the file's checks on
-  abbrev Filled : List ℕ → List ℕ → ℕ → List ℕ → Type 0
-  Filled before after end text = (end ≡ length text) × (Put before 0 text after × Counts end after)
-
-  filled : {before after : List ℕ} {end : ℕ} (text : List ℕ) → end ≡ length text → Put before 0 text after → Filled before after end text
-  filled text size put = (size, (put, (inside text size put, lent-length text size put)))
-
-  by-file :
-      {o : Outcome Suite} {before after : List ℕ} {end : ℕ} → o ≡ fileSays form1 file → Filled before after end (pageBy o (sheetOfFile file)) →
-      Filled before after end (pageText file)
-  unfolding pageText
-  by-file {before = before} {after} {end} e = subst (λ (o : Outcome Suite). Filled before after end (pageBy o (sheetOfFile file))) e
+-- the page from the file's checks on
+by-file :
+    (file : List ℕ) {o : Outcome Suite} {before after : List ℕ} {end : ℕ} → o ≡ fileSays form1 file →
+    Filled before after end (pageBy o (sheetOfFile file)) → Filled before after end (pageText file)
+unfolding pageText
+by-file file {before = before} {after} {end} e = subst (λ (o : Outcome Suite). Filled before after end (pageBy o (sheetOfFile file))) e
 
 check-requires : tie.Need-check-requires
 check-requires c κs = search needs
@@ -62,7 +53,7 @@ returns c =
     let check = put .before .before .before .before .before in
     by-file (check .before .before .before .args .file .now)
     (said suiteSays (λ o. o) (check .check .ensures) (put .before .before .before .r .given .1))
-    (filled (check .before .before .before .args .file .now) _ (put .put-refused .ensures .0 ∙ zero-add _) (put .put-refused .ensures .1))
+    (filled _ (put .put-refused .ensures .0 ∙ zero-add _) (put .put-refused .ensures .1))
 
 same-length-2 : tie.Need-same-length-2
 same-length-2 c = search needs
@@ -72,7 +63,7 @@ returns-2 c =
     let put = c .before .before in
     let check = put .before .before .before .before .before in
     by-file (check .before .before .before .args .file .now)
-    (said suiteSays (λ o. o) (check .check .ensures) (put .before .before .before .counts .given .1)) (filled (check .before .before .before .args .file .now) _ (put .put-sheet .ensures .0) (put .put-sheet .ensures .1))
+    (said suiteSays (λ o. o) (check .check .ensures) (put .before .before .before .counts .given .1)) (filled _ (put .put-sheet .ensures .0) (put .put-sheet .ensures .1))
 
 pub put-page-spec : {M : Type 1} → statement M
 put-page-spec =

@@ -13,7 +13,8 @@ use Rattle.figures.proofs.Known.{said}
 use Rattle.laws.proofs.Lent.{Answered, along, answered}
 use Rattle.layout.specs.Layout.{form1}
 use Rattle.layout.specs.Checks.{fileSays}
-use Rattle.sheets.specs.Answers.{sheetOfFile, pageBy, pageText, textOf, sheetOf}
+use Rattle.lines.specs.Texts.{pageBy, textOf}
+use Rattle.sheets.specs.Answers.{sheetOfFile, pageText, sheetOf}
 use Rattle.sheets.proofs.sheet.Statement.{statement}
 use Rattle.sheets.proofs.sheet.Tie as tie
 

@@ -1,0 +1,5 @@
+pub mod Signs
+pub mod OneLine
+pub mod Given
+pub mod Unique
+pub mod Examples

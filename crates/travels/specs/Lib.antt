@@ -1,0 +1,2 @@
+pub mod Travels
+pub mod Room
