@@ -1,4 +1,4 @@
-//! Compares the proved operations with a reference that was written from document 01 alone.
+//! Compares the proved operations with a reference that was written from document 01 alone, and for recorded runs from document 02.
 //!
 //!     outside PROGRAM short|full [seed=N] [RUNNER WORDS..]
 //!     outside FOLDER store
@@ -114,9 +114,6 @@ fn print(kinds: Vec<(&'static str, Tally)>) -> Tally {
         let answers = all.counts.iter().filter(|(key, _)| key.0 == operation);
         let answers: Vec<String> = answers.map(|(key, count)| format!("{} {count}", worded(key.1))).collect();
         println!("  {:>9}  {operation:?}: {}", all.of(operation), answers.join(", "));
-    }
-    if !cases::RECORDED_READY {
-        println!("             TakeIn is off: `answers` can't call it yet");
     }
     println!("the reference against itself and against the documents' own answers: {}", all.own);
     for told in &all.first {

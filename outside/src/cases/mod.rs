@@ -13,7 +13,6 @@ mod whole_files;
 
 pub use papers::given_by_document_01;
 pub use recorded::few as few_recorded;
-pub use recorded::READY as RECORDED_READY;
 pub use whole_files::files;
 
 use crate::batch::Batch;
@@ -51,7 +50,7 @@ pub fn plan(full: bool) -> Vec<Kind> {
         let (parts, many) = if full { long } else { short };
         Kind { name, make, parts, many }
     };
-    let mut kinds = vec![
+    vec![
         kind("papers", papers::make as fn(&mut Part, &mut Batch), (1, 3), (1, 4)),
         kind("limits", limits::make, (1, 0), (1, 0)),
         kind("limits of files", limits_of_files::make, (1, 0), (1, 0)),
@@ -68,9 +67,6 @@ pub fn plan(full: bool) -> Vec<Kind> {
         kind("random suites", suites::random, (16, 500), (120, 1000)),
         kind("damaged files", damage::some_values, (8, 3), (60, 6)),
         kind("every value of every byte", damage::every_value, (2, 4), (12, 1)),
-    ];
-    if recorded::READY {
-        kinds.push(kind("recorded runs", recorded::make, (2, 1000), (20, 5000)));
-    }
-    kinds
+        kind("recorded runs", recorded::make, (2, 1000), (20, 5000)),
+    ]
 }

@@ -5,9 +5,6 @@ use crate::batch::Batch;
 use crate::operation;
 use crate::random::Random;
 
-/// Whether `answers` can call the operation.
-pub const READY: bool = true;
-
 /// A log of so many steps: small moves, leaps close to half of the range, or any counts.
 fn log(random: &mut Random, steps: usize) -> Vec<u8> {
     let manner = random.below(3);
