@@ -1,4 +1,4 @@
-//! Compares the proved operations with a reference that was written from document 01 alone, and for recorded runs from document 02.
+//! Compares the proved operations with a reference that was written from the text of document 01, and for recorded runs of document 02.
 //!
 //!     outside PROGRAM short|full [seed=N] [RUNNER WORDS..]
 //!     outside FOLDER store
