@@ -1,4 +1,4 @@
-"""Builds the peers and our `sheet`, runs them, and counts the x86-64 instructions that they take."""
+"""Builds the peers and our programs, runs them, and counts the x86-64 instructions that they take."""
 import platform
 import re
 import shutil
@@ -9,7 +9,7 @@ from pathlib import Path
 HOUSE = Path(__file__).resolve().parent.parent
 BENCH = HOUSE / "bench"
 OUT = HOUSE / "target" / "bench"
-OURS = HOUSE / "target" / "bin" / "sheet"
+OURS = HOUSE / "target" / "bin"
 NATIVE = platform.machine() == "x86_64"
 
 # Static and at a fixed address: no loader and no indirection that the peer's code did not ask for.
@@ -68,9 +68,11 @@ def make_suites():
 
 
 def build_ours():
-    """Our program, proved and built if a crate has changed since (bin/sheet does that)."""
-    subprocess.run([HOUSE / "bin" / "sheet", HOUSE / "examples" / "worked.suite"], check=True, stdout=subprocess.DEVNULL)
-    return OURS
+    """Our programs `sheet` and `answers`, proved and built if a crate has changed since."""
+    built = subprocess.run([needed("rt"), "check", "sheet", "answers"], cwd=HOUSE, capture_output=True, text=True)
+    if built.returncode != 0:
+        raise Failed("not proved: " + built.stdout[-500:])
+    return OURS / "sheet", OURS / "answers"
 
 
 def toolchain():

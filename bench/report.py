@@ -34,18 +34,20 @@ GROWTH_HEAD = """
 ## How cost grows
 
 One size of a middling suite doubled alone (4 requirements of 16 rows with 8 occurrences each, 8 runs of 128 steps; where rows are
-doubled 2 occurrences, where occurrences are doubled 32 rows). In brackets: times the count before.
+doubled 2 occurrences, where occurrences are doubled 32 rows). In brackets: times the count before. The last column is our sheet without
+what `nothing` takes, which is the same for every suite.
 
 ![Instructions against each size, both axes logarithmic](speed.svg)
 
-| Doubled | Size | (a) | (b) | (c) | our sheet |
-|---|---|---|---|---|---|
+| Doubled | Size | (a) | (b) | (c) | our sheet | less its start |
+|---|---|---|---|---|---|---|
 """
 TRUTH = """
 ## Truth alone
 
-The peer `truth`, a plain column engine, takes {count:,} instructions for one table of {rows} rows over one run of {steps:,} steps:
-{each:.1f} a row and step.
+One table of {rows} rows over one run of {steps:,} steps. The peer `truth`, a plain column engine, takes {count:,} instructions, {each:.1f} a
+row and step; our operation `truth`, in the program `answers` on one case, {ours:,}: {times:.2f} times as many. Both counts have
+starting, reading, checks and printing in them, and both say the same.
 """
 
 
@@ -61,26 +63,30 @@ def size_line(name, suite):
     return "| " + " | ".join(map(str, cells)) + " |\n"
 
 
-def growth_lines(what, series):
+def growth_lines(what, series, start):
     before = None
-    for size, by in series:
-        cells = [f"{by[p]:,}" + (f" (×{by[p] / before[p]:.2f})" if before else "") for p in NAMES]
+    for size, counts in series:
+        by = {**counts, "less": counts["sheet"] - start}
+        cells = [f"{count:,}" + (f" (×{count / before[p]:.2f})" if before else "") for p, count in by.items()]
         yield f"| {what} | {size:,} | " + " | ".join(cells) + " |\n"
         before = by
 
 
 def page(sizes, every_series, truth, suites):
-    """sizes: {name: {bytes, parts, counts}}; every_series as plot.svg has it; truth: {count, rows, steps}; suites: how many were run."""
+    """sizes: {name: {bytes, parts, counts}}; every_series as plot.svg has it; truth: {count, ours, rows, steps}; suites: how many were run."""
     words = {"counter": programs.counter_name(), "compiler": programs.compiler_version(), "flags": " ".join(programs.FLAGS)}
     text = HEAD.format(**words, suites=suites, answers=suites * len(NAMES)) + SIZES_HEAD
     text += "".join(size_line(name, suite) for name, suite in sizes.items()) + SIZES_FOOT + GROWTH_HEAD
-    text += "".join(row for what, series in every_series.items() for row in growth_lines(what, series))
-    return text + TRUTH.format(**truth, each=truth["count"] / truth["rows"] / truth["steps"])
+    start = sizes["nothing"]["counts"]["sheet"]
+    text += "".join(row for what, series in every_series.items() for row in growth_lines(what, series, start))
+    each, times = truth["count"] / truth["rows"] / truth["steps"], truth["ours"] / truth["count"]
+    return text + TRUTH.format(**truth, each=each, times=times)
 
 
-def summary(sizes):
-    """The three suites in a few short lines."""
+def summary(sizes, truth):
+    """The three suites and truth alone in a few short lines."""
     for name, suite in sizes.items():
         by = suite["counts"]
         counts = ", ".join(f"{p} {by[p]:,}" for p in NAMES)
         yield f"{name}: {counts}; a/c {ratio(by['a'], by['c'])}, sheet/c {ratio(by['sheet'], by['c'])}"
+    yield f"truth alone: peer {truth['count']:,}, ours {truth['ours']:,}"

@@ -1,137 +1,127 @@
-//! Cases in one stretch: what is fed to the program `answers`, what it must write, and the comparison.
+//! Cases gathered until they are some megabytes, then given to the program and compared byte by byte.
 
-use crate::answer::{self, Answer, Outcome};
-use crate::operation::{Case, Operation};
-use crate::process;
-use std::collections::BTreeMap;
-use std::fs;
-use std::io;
+use crate::case::{Answer, Case, ANSWER_HEAD_BYTES, RECORDED, TRAVEL, TRUTH, WORD_BYTES};
+use crate::program::{Program, Programs};
+use crate::reference::{log, sheet};
+use crate::tally::{Tally, OTHER_NUMBER, PROGRAM_SHEET, PROGRAM_TRAVEL};
 
-#[derive(Default)]
-pub struct Batch {
-    input: Vec<u8>,
-    expected: Vec<u8>,
-    marks: Vec<Mark>,
-    /// Checks of the reference against itself: how many.
-    pub own: usize,
+const BATCH_BYTES: usize = 4_000_000;
+
+/// The room of the program `answers`.
+const INPUT_MOST: usize = 70_000;
+const LENT_MOST: usize = 262_144;
+const LENT_WORDS_MOST: usize = 4_200;
+
+pub struct Batch<'a> {
+    /// None: the cases are only gathered.
+    programs: Option<&'a Programs>,
+    job: usize,
+    kind: &'static str,
+    pub input: Vec<u8>,
+    pub output: Vec<u8>,
+    /// Where each case ends in the input and in the output.
+    ends: Vec<(usize, usize)>,
+    pub tally: Tally,
+    /// Why the program could not be run.
+    pub failure: Option<String>,
 }
 
-/// Where a case's bytes begin in the input and in what is expected.
-struct Mark {
-    operation: Operation,
-    answer: Answer,
-    input: usize,
-    expected: usize,
-}
-
-/// How many cases were compared, by operation and answer, and the differences, in words.
-#[derive(Default)]
-pub struct Tally {
-    pub counts: BTreeMap<(Operation, (usize, &'static str)), usize>,
-    pub own: usize,
-    pub differ: usize,
-    pub first: Vec<String>,
-}
-
-/// Differences told in full.
-const TOLD: usize = 3;
-
-impl Batch {
-    pub fn add(&mut self, (case, outcome): (Case, Outcome)) {
-        self.marks.push(Mark { operation: case.operation, answer: outcome.answer, input: self.input.len(), expected: self.expected.len() });
-        self.input.extend(case.bytes());
-        self.expected.extend(outcome.answer.head());
-        self.expected.extend(outcome.lent);
+impl<'a> Batch<'a> {
+    pub fn new(programs: Option<&'a Programs>, job: usize, kind: &'static str) -> Batch<'a> {
+        let (input, output, ends) = (Vec::new(), Vec::new(), Vec::new());
+        Batch { programs, job, kind, input, output, ends, tally: Tally::default(), failure: None }
     }
 
-    /// Adds a case whose answer a document gives: the reference must give the same.
-    pub fn add_given(&mut self, (case, outcome): (Case, Outcome), given: Answer) {
-        assert!(outcome.answer == given, "the reference says {:?} where the document says {given:?}: {}", outcome.answer, case.describe());
-        self.own += 1;
-        self.add((case, outcome));
-    }
-
-    /// Keeps the cases and what must be written of them as a program's files `stdin` and `stdout`.
-    pub fn store(&self, folder: &str) -> io::Result<()> {
-        fs::write(format!("{folder}/stdin"), &self.input)?;
-        fs::write(format!("{folder}/stdout"), &self.expected)
-    }
-
-    fn end_of(&self, k: usize) -> (usize, usize) {
-        match self.marks.get(k + 1) {
-            Some(next) => (next.input, next.expected),
-            None => (self.input.len(), self.expected.len()),
+    /// Adds a case with a filling byte that changes from case to case.
+    pub fn add(&mut self, mut case: Case) {
+        let too_many_words = case.operation == RECORDED && case.lent / WORD_BYTES > LENT_WORDS_MOST;
+        if case.table.len() + case.more.len() > INPUT_MOST || case.lent > LENT_MOST || too_many_words {
+            self.failure = Some(format!("a case beyond the program's room: {} {}", case.operation, case.lent));
+        }
+        if self.failure.is_some() {
+            return;
+        }
+        case.fill = (self.ends.len() * 37 + 11) as u8;
+        let answer = case.answer();
+        case.put(&mut self.input);
+        case.put_answer(&answer, &mut self.output);
+        self.ends.push((self.input.len(), self.output.len()));
+        let number = if let Answer::Refused(refusal) = &answer { refusal.number } else { 0 };
+        let operation = if (TRUTH..=TRAVEL).contains(&case.operation) { case.operation } else { OTHER_NUMBER };
+        self.tally.count(self.kind, operation, answer.code(), number);
+        if self.input.len() + self.output.len() > BATCH_BYTES {
+            self.run();
         }
     }
 
-    fn tell(&self, name: &str, k: usize, got: Option<&[u8]>) -> String {
-        let mark = &self.marks[k];
-        let (input_end, expected_end) = self.end_of(k);
-        let said = |bytes: &[u8]| Outcome { answer: Answer::of_head(bytes), lent: bytes[answer::HEAD..].to_vec() }.to_string();
-        let got = got.map_or("nothing, the output ended".to_string(), said);
-        format!(
-            "{name}, case {k}\n  {}\n  expected: {}\n  got:      {got}",
-            describe(mark.operation, &self.input[mark.input..input_end]),
-            said(&self.expected[mark.expected..expected_end])
-        )
+    /// Runs what was gathered.
+    pub fn run(&mut self) {
+        let Some(programs) = self.programs else { return };
+        if self.ends.is_empty() {
+            return;
+        }
+        match programs.answers.run(&self.input) {
+            Ok(got) => self.compare(&got),
+            Err(error) => self.failure = Some(format!("answers: {error}")),
+        }
+        self.input.clear();
+        self.output.clear();
+        self.ends.clear();
     }
 
-    /// Runs the program on the cases and compares every byte.
-    pub fn compare(&self, name: &str, program: &[String]) -> io::Result<Tally> {
-        let (got, status) = process::fed(program, &self.input)?;
-        let mut tally = Tally { own: self.own, ..Tally::default() };
-        for (k, mark) in self.marks.iter().enumerate() {
-            *tally.counts.entry((mark.operation, mark.answer.label())).or_default() += 1;
-            let end = self.end_of(k).1;
-            let part = got.get(mark.expected..end);
-            if part != Some(&self.expected[mark.expected..end]) {
-                tally.differ += 1;
-                if tally.first.len() < TOLD {
-                    tally.first.push(self.tell(name, k, part));
+    fn compare(&mut self, got: &[u8]) {
+        let mut from = (0, 0);
+        for &to in &self.ends {
+            let (case, expected) = (&self.input[from.0..to.0], &self.output[from.1..to.1]);
+            let answer = &got[from.1.min(got.len())..to.1.min(got.len())];
+            self.tally.compared += 1;
+            if answer != expected {
+                let kind = self.kind;
+                self.tally.differs(self.job, || show(kind, case, expected, answer));
+            }
+            from = to;
+        }
+        if got.len() > self.output.len() {
+            let more = got.len() - self.output.len();
+            self.tally.differs(self.job, || format!("{}: {more} bytes more than the answers\n", self.kind));
+        }
+    }
+
+    /// A whole file for the program `sheet`.
+    pub fn sheet_program(&mut self, file: &[u8]) {
+        let program = self.programs.map(|programs| programs.sheet.clone());
+        self.text_program(program, PROGRAM_SHEET, file, sheet::page(file));
+    }
+
+    /// A whole log for the program `travel`.
+    pub fn travel_program(&mut self, file: &[u8]) {
+        let program = self.programs.and_then(|programs| programs.travel.clone());
+        self.text_program(program, PROGRAM_TRAVEL, file, log::page(file));
+    }
+
+    fn text_program(&mut self, program: Option<Program>, operation: u32, file: &[u8], text: String) {
+        let Some(program) = program else { return };
+        let refused = text.strip_prefix("refused ").and_then(|rest| rest.split(' ').next()).and_then(|number| number.parse().ok());
+        match program.run(file) {
+            Ok(got) => {
+                self.tally.count(self.kind, operation, if refused.is_some() { 0 } else { 3 }, refused.unwrap_or(0));
+                self.tally.compared += 1;
+                if got != text.as_bytes() {
+                    let kind = self.kind;
+                    self.tally.differs(self.job, || show(kind, file, text.as_bytes(), &got));
                 }
             }
+            Err(error) => self.failure = Some(error.to_string()),
         }
-        if got.len() > self.expected.len() || !status.success() {
-            tally.differ += 1;
-            let past = got.len().saturating_sub(self.expected.len());
-            tally.first.push(format!("{name}: {past} bytes past the last answer, {status}"));
-        }
-        Ok(tally)
     }
 }
 
-/// A case in words, from its bytes.
-fn describe(operation: Operation, bytes: &[u8]) -> String {
-    let number = |k: usize| answer::word_at(bytes, 4 * k) as usize;
-    let (first, second) = bytes[28..].split_at(number(3));
-    let case = Case {
-        operation,
-        pattern: number(1) as u8,
-        first: first.to_vec(),
-        second: second.to_vec(),
-        conditions: number(4),
-        which: number(5),
-        room: number(6),
-    };
-    case.describe()
+fn hex(bytes: &[u8]) -> String {
+    bytes.iter().map(|byte| format!("{byte:02X} ")).collect()
 }
 
-impl Tally {
-    pub fn add(&mut self, other: Tally) {
-        for (key, count) in other.counts {
-            *self.counts.entry(key).or_default() += count;
-        }
-        self.own += other.own;
-        self.differ += other.differ;
-        self.first.extend(other.first);
-        self.first.truncate(TOLD);
-    }
-
-    pub fn of(&self, operation: Operation) -> usize {
-        self.counts.iter().filter(|(key, _)| key.0 == operation).map(|(_, count)| count).sum()
-    }
-
-    pub fn all(&self) -> usize {
-        self.counts.values().sum()
-    }
+fn show(kind: &str, case: &[u8], expected: &[u8], got: &[u8]) -> String {
+    let heads = |bytes: &[u8]| hex(&bytes[..bytes.len().min(ANSWER_HEAD_BYTES)]);
+    let short = format!("head expected {}/ got {}", heads(expected), heads(got));
+    format!("{kind}: {short}\ncase     {}\nexpected {}\ngot      {}\n", hex(case), hex(expected), hex(got))
 }

@@ -1,47 +1,52 @@
-//! Random numbers that come again with the same seed: splitmix64.
+//! A small seeded generator (splitmix64).
 
-pub struct Random(u64);
+pub struct Random {
+    state: u64,
+}
 
 impl Random {
-    pub fn new(seed: u64) -> Self {
-        Random(seed)
+    /// A generator of its own for each kind of case and each part of it.
+    pub fn new(seed: u64, kind: &str, part: usize) -> Random {
+        let mut random = Random { state: seed.wrapping_mul(0x2545_F491_4F6C_DD1D) ^ part as u64 };
+        for byte in kind.bytes() {
+            random.state ^= u64::from(byte) << 32;
+            random.next();
+        }
+        random
     }
 
     pub fn next(&mut self) -> u64 {
-        self.0 = self.0.wrapping_add(0x9e37_79b9_7f4a_7c15);
-        let mut z = self.0;
-        z = (z ^ (z >> 30)).wrapping_mul(0xbf58_476d_1ce4_e5b9);
-        z = (z ^ (z >> 27)).wrapping_mul(0x94d0_49bb_1331_11eb);
+        self.state = self.state.wrapping_add(0x9E37_79B9_7F4A_7C15);
+        let mut z = self.state;
+        z = (z ^ (z >> 30)).wrapping_mul(0xBF58_476D_1CE4_E5B9);
+        z = (z ^ (z >> 27)).wrapping_mul(0x94D0_49BB_1331_11EB);
         z ^ (z >> 31)
     }
 
-    pub fn below(&mut self, n: usize) -> usize {
-        (self.next() % n as u64) as usize
+    /// From 0 up to but not including the bound, which is not 0.
+    pub fn below(&mut self, bound: usize) -> usize {
+        (self.next() % bound as u64) as usize
     }
 
-    /// From `least` to `most`, both included.
+    /// From least to most, both possible.
     pub fn between(&mut self, least: usize, most: usize) -> usize {
         least + self.below(most - least + 1)
     }
 
-    pub fn one_in(&mut self, n: usize) -> bool {
-        self.below(n) == 0
-    }
-
     pub fn byte(&mut self) -> u8 {
-        self.below(256) as u8
+        self.next() as u8
     }
 
-    pub fn pick<T: Copy>(&mut self, from: &[T]) -> T {
-        from[self.below(from.len())]
+    pub fn word(&mut self) -> u32 {
+        self.next() as u32
     }
 
-    /// From 1 to `most`: one time in `rare` anywhere in that range, else at most `usual`.
-    pub fn sized(&mut self, usual: usize, most: usize, rare: usize) -> usize {
-        if self.one_in(rare) {
-            self.between(1, most)
-        } else {
-            self.between(1, usual.min(most))
-        }
+    /// True once in so many times.
+    pub fn once_in(&mut self, times: usize) -> bool {
+        self.below(times) == 0
+    }
+
+    pub fn pick<T: Copy>(&mut self, list: &[T]) -> T {
+        list[self.below(list.len())]
     }
 }

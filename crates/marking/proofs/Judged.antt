@@ -16,7 +16,8 @@ use Rattle.signals.specs.Truth.{ownOf, readsOf, flip, verdictOf, holds}
 use Rattle.coverage.specs.Coverage.{witnessBit, covered}
 use Rattle.coverage.proofs.Theorems.{same-verdict}
 use Rattle.flips.proofs.Decide.{covered-by-witness}
-use Rattle.lanes.specs.Lanes.{laneCount, lane, laneReads}
+use Rattle.lanes.specs.Lanes.{laneCount, lane}
+use Rattle.blocks.specs.Blocks.{laneReads}
 use Rattle.bench.specs.Tables.{markOf}
 use Rattle.marking.specs.Flipped.{numberIn, recorded, Flips}
 use Rattle.marking.proofs.Numbered.{number-below, numbers-apart}

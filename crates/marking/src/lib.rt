@@ -7,12 +7,14 @@ ghost use Rattle.lengths.specs.Lengths.{mostRequirementRows};
 ghost use Rattle.signals.specs.Truth.{holds};
 ghost use Rattle.layout.specs.Layout.{form1, runsIn};
 ghost use Rattle.layout.specs.Checks.{wordsOf, runWordsIn};
+ghost use Rattle.blocks.specs.Blocks.{blockWords};
 ghost use Rattle.bench.specs.Coverage.{heldOf};
 ghost use Rattle.bench.specs.Longest.{markCount};
 ghost use Rattle.bench.specs.Tables.{Marked, ColumnMarked};
 ghost use Rattle.bench.specs.Files.{RowsReady, RunReady, RunsReady};
 ghost use Rattle.marking.specs.Flipped.{Keeps, Witnesses, Flips};
 use bench::Marks;
+use blocks::Block;
 use figures::RowNumber;
 use figures::RunCount;
 use figures::RunNumber;
@@ -58,13 +60,15 @@ fn mark_run(
     flips: &[u64; Requirement::ROWS],
     run: &[u8],
     j: RunNumber,
+    lines: &mut [u64; Block::WORDS],
     marks: &mut [bool; Marks::MANY],
 ) -> bool
-    requires { ⌜ RowsReady (now rows) × Flips (now rows) (now keep) (now flips) × RunReady (wordsOf (now run)) × (j .0 < mostRuns) × (length (now marks) ≡ markCount) ⌝ }
+    requires { ⌜ RowsReady (now rows) × Flips (now rows) (now keep) (now flips) × RunReady (wordsOf (now run)) × (j .0 < mostRuns) × (length (now marks) ≡ markCount) × (length (now lines) ≡ blockWords) ⌝ }
     ensures { λ r. ⌜ r ≡ holds (now (rows .entry)) (wordsOf (now (run .entry))) ⌝ }
     ensures { λ _. ⌜ ColumnMarked (now (rows .entry)) (wordsOf (now (run .entry))) (j .0) (now (marks .entry)) (now (marks .exit)) ⌝ }
+    ensures { λ _. ⌜ length (now (lines .exit)) ≡ blockWords ⌝ }
 {
-    let verdicts = lanes::judge_lanes(rows, keep, flips, run);
+    let verdicts = blocks::judge(rows, keep, flips, run, lines);
     let held = lanes::in_lane(verdicts, Lane(Lane::LAST));
     let column = j.0;
     let mut o = 0;
@@ -91,12 +95,13 @@ pub fn mark_runs(
 {
     let keep = keep_of(rows);
     let flips = flips_of(rows);
+    let mut lines = [0u64; Block::WORDS];
     let many = runs.0;
     let mut count = 0;
     let mut j = 0;
     while j < many {
         let run = suite::run_bytes(file, RunNumber(j));
-        count += rows::one_if(mark_run(rows, &keep, &flips, run, RunNumber(j), marks));
+        count += rows::one_if(mark_run(rows, &keep, &flips, run, RunNumber(j), &mut lines, marks));
         j += 1;
     }
     RunCount(count)

@@ -1,153 +1,175 @@
-//! Every limit of a lone table, run and lent part, from both sides, and which refusal comes first.
+//! Each limit from both sides, and then several faults at once.
 
-use super::make;
+use super::faults;
+use super::great::{chain, filled_suite, fullest_suite, largest_suite};
+use super::make::*;
 use super::Part;
 use crate::batch::Batch;
-use crate::formula::*;
-use crate::operation;
+use crate::case::{Case, LIST, PAGE, SHEET, WORD_BYTES};
 use crate::random::Random;
-use crate::trap;
+use crate::reference::formula::*;
+use crate::reference::limits::*;
+use crate::reference::suite::{write, Suite};
 
-/// A requirement of so many rows with one occurrence.
-pub fn chain(count: usize) -> Vec<Row> {
-    let next = |r: usize| if r == 0 { row(CONDITION, 0, 0) } else { row(UNARY[r % 4], r - 1, 0) };
-    (0..count).map(next).collect()
-}
+const ALL_ONES: usize = u32::MAX as usize;
 
-/// A requirement of 31 rows with 16 occurrences, nested by one kind to the left or to the right.
-fn nested(kind: u8, right: bool) -> Vec<Row> {
-    let mut rows = vec![row(CONDITION, 0, 0)];
-    for condition in 1..16 {
-        let below = rows.len() - 1;
-        rows.push(row(CONDITION, condition, 0));
-        rows.push(if right { row(kind, below + 1, below) } else { row(kind, below, below + 1) });
+pub fn make(batch: &mut Batch, random: &mut Random, _: &Part) {
+    table_limits(batch);
+    run_limits(batch, random);
+    condition_limits(batch);
+    suite_counts(batch, random);
+    suite_bodies(batch);
+    suite_bytes(batch);
+    log_limits(batch);
+    faults::lone(batch);
+    faults::files(batch);
+    faults::two_bodies(batch);
+    faults::logs(batch);
+    for operation in [0, 9, 10, 255, u32::MAX] {
+        batch.add(Case { operation, table: vec![2, 0, 0], more: vec![1, 0, 0, 0], conditions: 1, lent: 5, ..Case::default() });
     }
-    rows
 }
 
-fn three(random: &mut Random, table: &[u8], run: &[u32], conditions: usize, which: usize, batch: &mut Batch) {
-    batch.add(operation::truth(table, run, conditions));
-    batch.add(operation::trap(table, conditions, which, make::lent(random, 3 * 7 * table.len() / 3)));
-    batch.add(operation::witness(table, run, conditions, which, make::lent(random, run.len())));
+fn table_limits(batch: &mut Batch) {
+    for rows in [0, 1, 2, 31, 32, 33, 34, 155, 156, 223, 224, 225, 226, 255, 256, 257, 300] {
+        for kind in [FINALLY, GLOBALLY, WEAK_NEXT] {
+            let bytes = bytes_of(&chain(kind, rows));
+            for extra in 0..3 {
+                let table = [&bytes[..], &vec![0; extra]].concat();
+                batch.add(truth(&table, &[1, 0, 1], 1));
+                batch.add(trap(&table, 1, 0, 3 * TABLE_ROWS_MOST));
+                batch.add(witness(&table, &[1, 0, 1], 1, 0, 3));
+            }
+        }
+    }
+    // The longest trap table there is, lent just enough and one byte less.
+    let longest = bytes_of(&chain(FINALLY, REQUIREMENT_ROWS_MOST));
+    let rows = REQUIREMENT_ROWS_MOST + 4 * (REQUIREMENT_ROWS_MOST - 1);
+    for lent in 3 * rows - 3..3 * rows + 3 {
+        batch.add(trap(&longest, 1, 0, lent));
+    }
+    for which in [0, 1, 2, 255, 256, ALL_ONES] {
+        let table = bytes_of(&[[CONDITION, 0, 0], [CONDITION, 0, 0], [AND, 0, 1]]);
+        batch.add(trap(&table, 1, which, 40));
+        batch.add(witness(&table, &[1], 1, which, 1));
+    }
 }
 
-fn conditions(random: &mut Random, batch: &mut Batch) {
-    for count in [0, 1, 2, 30, 31, 32, 33, 34, 63, 64, 255, 256, 65_536, 4_294_967_295] {
-        for condition in [0, 1, 2, 29, 30, 31, 32, 33, 63, 64, 255] {
-            three(random, &[CONDITION, condition, 0], &[1, 0], count, 0, batch);
+fn run_limits(batch: &mut Batch, random: &mut Random) {
+    for steps in [0, 1, 2, STEPS_MOST - 1, STEPS_MOST, STEPS_MOST + 1, STEPS_MOST + 100] {
+        let mut run = vec![0; steps];
+        if let Some(last) = run.last_mut() {
+            *last = 1;
+        }
+        for kind in [FINALLY, GLOBALLY, STRONG_NEXT, WEAK_NEXT] {
+            for rows in [1, 2, REQUIREMENT_ROWS_MOST] {
+                let table = bytes_of(&chain(kind, rows));
+                batch.add(truth(&table, &run, 1));
+                for lent in [steps.saturating_sub(1), steps, steps + 1] {
+                    batch.add(witness(&table, &run, 1, 0, lent));
+                }
+            }
+        }
+        for _ in 0..8 {
+            let table = bytes_of(&requirement(random, REQUIREMENT_ROWS_MOST, 1));
+            batch.add(witness(&table, &run, 1, 0, steps));
         }
     }
 }
 
-fn lengths(random: &mut Random, batch: &mut Batch) {
-    let bytes = bytes_of(&chain(230));
-    for length in (0..13).chain(90..106).chain(660..691) {
-        three(random, &bytes[..length], &[1, 0, 1], 1, 0, batch);
-    }
-    for steps in [0, 1, 2, 3, 4094, 4095, 4096, 4097, 4098, 4200] {
-        let run = make::run(random, steps, 2);
-        three(random, &bytes[..9], &run, 2, 0, batch);
-        let ones = vec![1; steps];
-        three(random, &[CONDITION, 0, 0, GLOBALLY, 0, 0], &ones, 1, 0, batch);
-    }
-}
-
-/// Each bit of a word against each number of conditions, at the first, a middle and the last step, and at two steps.
-fn bits(random: &mut Random, batch: &mut Batch) {
-    for count in 1..=CONDITIONS {
-        for bit in 0..32 {
-            let mut run = vec![0; 3];
-            run[random.below(3)] |= 1 << bit;
-            run[random.below(3)] |= 1 << random.below(32);
-            three(random, &[CONDITION, count as u8 - 1, 0], &run, count, 0, batch);
-        }
-    }
-}
-
-/// Each kind with fields around its row's number and at the ends of a byte.
-fn fields(random: &mut Random, batch: &mut Batch) {
-    let some = [0, 1, 2, 3, 4, 31, 32, 254, 255];
-    for kind in (0..=14).chain([127, 128, 255]) {
-        for first in some {
-            for second in some {
-                let table = [CONDITION, 0, 0, CONDITION, 1, 0, kind, first, second];
-                let which = random.below(2);
-                three(random, &table, &[1, 2, 3], 2, which, batch);
+fn condition_limits(batch: &mut Batch) {
+    for conditions in (0..=CONDITIONS_MOST + 2).chain([64, 255, 256, 257, 288, ALL_ONES]) {
+        for read in [0, conditions.saturating_sub(1), conditions, 255] {
+            let table = [CONDITION, read as u8, 0];
+            batch.add(truth(&table, &[u32::MAX], conditions));
+            batch.add(trap(&table, conditions, 0, 3));
+            for bit in [conditions.saturating_sub(1), conditions, 31] {
+                let run = [0, 1 << bit.min(31), 1 << 31];
+                batch.add(truth(&table, &run, conditions));
+                batch.add(witness(&table, &run[..2], conditions, 0, 2));
             }
         }
     }
 }
 
-/// Trap tables of the deepest requirements, for every occurrence and in lent parts of every length around their own.
-fn deepest(random: &mut Random, batch: &mut Batch) {
-    for kind in BINARY {
-        for right in [false, true] {
-            let rows = nested(kind, right);
-            for which in (0..18).chain([255, 256, 4_294_967_295]) {
-                let own = occurrences(&rows).get(which).map_or(0, |&place| 3 * trap::rows(&rows, place).len());
-                let near = (own.saturating_sub(3)..own + 4).map(|room| (room, random.byte()));
-                near.for_each(|lent| batch.add(operation::trap(&bytes_of(&rows), 16, which, lent)));
-                let run = make::holding_run(random, &rows, 6, 16);
-                batch.add(operation::witness(&bytes_of(&rows), &run, 16, which, make::lent(random, 6)));
+fn three(batch: &mut Batch, file: &[u8]) {
+    batch.add(of_file(SHEET, file, 0, 30_000));
+    batch.add(of_file(PAGE, file, 0, 30_000));
+    for which in [0, REQUIREMENTS_MOST - 1, REQUIREMENTS_MOST, 255, ALL_ONES] {
+        batch.add(of_file(LIST, file, which, 5_000));
+    }
+}
+
+/// The three counts, in files that have as many, and in files where only the count is another.
+fn suite_counts(batch: &mut Batch, random: &mut Random) {
+    for conditions in [0, 1, CONDITIONS_MOST - 1, CONDITIONS_MOST, CONDITIONS_MOST + 1, 255] {
+        for requirements in [0, 1, REQUIREMENTS_MOST - 1, REQUIREMENTS_MOST, REQUIREMENTS_MOST + 1] {
+            for runs in [0, 1, RUNS_MOST - 1, RUNS_MOST, RUNS_MOST + 1] {
+                let rows = (0..requirements).map(|_| requirement(random, 4, conditions.clamp(1, CONDITIONS_MOST))).collect();
+                let runs = vec![vec![1, 0]; runs];
+                three(batch, &write(&Suite { conditions, requirements: rows, runs }));
             }
         }
     }
-    for count in 1..=REQUIREMENT_ROWS {
-        let rows = chain(count);
-        let own = 3 * trap::rows(&rows, 0).len();
-        for room in own.saturating_sub(3)..own + 4 {
-            batch.add(operation::trap(&bytes_of(&rows), 1, 0, (room, random.byte())));
+    let one = Suite { conditions: 1, requirements: vec![chain(FINALLY, 2)], runs: vec![vec![1, 0]] };
+    for place in 0..4 {
+        for value in 0..=255 {
+            let mut file = write(&one);
+            file[place] = value;
+            batch.add(of_file(PAGE, &file, 0, 200));
         }
     }
 }
 
-/// A witness and a trap table in lent parts of every length.
-fn rooms(random: &mut Random, batch: &mut Batch) {
-    let plain = bytes_of(&[row(CONDITION, 0, 0), row(CONDITION, 1, 0), row(OR, 0, 1), row(FINALLY, 2, 0)]);
-    let under_not = bytes_of(&[row(CONDITION, 0, 0), row(NOT, 0, 0), row(GLOBALLY, 1, 0)]);
-    for room in 0..40 {
-        for pattern in [0, 1, 2, 170, 255] {
-            batch.add(operation::trap(&plain, 2, room % 2, (room, pattern)));
-            batch.add(operation::witness(&plain, &[0, 1, 0, 0, 1, 0, 0], 2, 0, (room, pattern)));
-            batch.add(operation::witness(&plain, &[0, 1, 2], 2, 0, (room, pattern)));
-            batch.add(operation::witness(&under_not, &vec![0; 1 + random.below(12)], 1, 0, (room, pattern)));
+/// Rows and steps, and starts that no two bytes can say: those must not wrap.
+fn suite_bodies(batch: &mut Batch) {
+    let suite = |rows: usize, steps: &[usize]| Suite {
+        conditions: 1,
+        requirements: vec![chain(WEAK_NEXT, rows)],
+        runs: steps.iter().map(|&steps| vec![1; steps]).collect(),
+    };
+    for rows in [0, 1, REQUIREMENT_ROWS_MOST, REQUIREMENT_ROWS_MOST + 1, 256, 257] {
+        for steps in [0, 1, STEPS_MOST, STEPS_MOST + 1] {
+            three(batch, &write(&suite(rows, &[1, steps])));
+        }
+    }
+    for runs in [4, 5, 16, 17, RUNS_MOST] {
+        let mut file = write(&suite(1, &vec![STEPS_MOST; runs]));
+        for length in [4 + 4 * (1 + runs), FILE_MOST - 1, FILE_MOST, FILE_MOST + 1] {
+            file.resize(length, 0);
+            three(batch, &file);
         }
     }
 }
 
-/// Inputs that are wrong in several ways at once: conditions, length, row, requirement, run, bit, occurrence, room.
-fn at_once(random: &mut Random, batch: &mut Batch) {
-    for wrong in 0..256usize {
-        let is = |k: usize| wrong >> k & 1 == 1;
-        let mut table = bytes_of(&[row(CONDITION, 0, 0), row(CONDITION, 1, 0), row(OR, 0, 1), row(FINALLY, 2, 0)]);
-        if is(3) {
-            table = bytes_of(&[row(CONDITION, 0, 0), row(CONDITION, 1, 0), row(AND, 0, 0), row(OR, 1, 2)]);
-        }
-        if is(2) {
-            table[5] = 1;
-        }
-        if is(1) {
-            table.push(0);
-        }
-        let mut run = if is(4) { vec![0; 4097] } else { vec![0, 1, 0] };
-        if is(5) {
-            run[2] = 1 << 7;
-        }
-        let (conditions, which) = (if is(0) { 33 } else { 2 }, if is(6) { 2 } else { 0 });
-        let room = |needed: usize| if is(7) { needed - 1 } else { needed };
-        batch.add(operation::truth(&table, &run, conditions));
-        batch.add(operation::trap(&table, conditions, which, (room(30), random.byte())));
-        batch.add(operation::witness(&table, &run, conditions, which, (room(3), random.byte())));
+fn suite_bytes(batch: &mut Batch) {
+    for lent in [2 * 16 * RUNS_MOST - 1, 2 * 16 * RUNS_MOST, 262_144] {
+        batch.add(of_file(LIST, &fullest_suite(), REQUIREMENTS_MOST - 1, lent));
+        batch.add(of_file(SHEET, &fullest_suite(), 0, lent));
+        batch.add(of_file(PAGE, &fullest_suite(), 0, lent));
+    }
+    for bytes in [400, 401, FILE_MOST - 2, FILE_MOST - 1, FILE_MOST, FILE_MOST + 1, FILE_MOST + 2, FILE_MOST + 4_000] {
+        three(batch, &filled_suite(bytes));
+    }
+    three(batch, &largest_suite());
+    for bytes in 0..FILE_LEAST + 2 {
+        three(batch, &[1; FILE_LEAST + 2][..bytes]);
     }
 }
 
-pub fn make(part: &mut Part, batch: &mut Batch) {
-    let random = &mut part.random;
-    conditions(random, batch);
-    lengths(random, batch);
-    bits(random, batch);
-    fields(random, batch);
-    deepest(random, batch);
-    rooms(random, batch);
-    at_once(random, batch);
+fn log_limits(batch: &mut Batch) {
+    for bytes in [0, 1, 2, 3, 4, 5, 2 * STEPS_MOST - 1, 2 * STEPS_MOST, 2 * STEPS_MOST + 1, 2 * STEPS_MOST + 2, 2 * STEPS_MOST + 4] {
+        for limits in [0, 1, CONDITIONS_MOST, CONDITIONS_MOST + 1, 64] {
+            for words in [(bytes / 2).saturating_sub(1), bytes / 2, bytes / 2 + 1] {
+                batch.add(recorded(&vec![0; bytes], &vec![0; limits], WORD_BYTES * words));
+            }
+        }
+    }
+    // The farthest travel: each step a half turn less one, up or down.
+    for difference in [0x7FFFu16, 0x8001] {
+        let log: Vec<u8> = (0..STEPS_MOST).flat_map(|step| difference.wrapping_mul(step as u16).to_le_bytes()).collect();
+        let farthest = 32_767 * (STEPS_MOST as i32 - 1);
+        let limits = [farthest - 1, farthest, farthest + 1, -farthest, -farthest + 1, -farthest - 1, i32::MAX, i32::MIN];
+        batch.add(recorded(&log, &limits, WORD_BYTES * STEPS_MOST));
+    }
 }

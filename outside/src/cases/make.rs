@@ -1,175 +1,162 @@
-//! Random rows, runs and suites, and lent rooms around what is needed.
+//! Making cases, tables, runs and suites.
 
-use crate::answer::Answer;
-use crate::batch::Batch;
-use crate::cover;
-use crate::formula::*;
-use crate::operation;
+use crate::case::*;
 use crate::random::Random;
-use crate::suite::Suite;
-use crate::trap;
+use crate::reference::formula::*;
+use crate::reference::suite::Suite;
 
-/// A length to lend, often near what is needed, and the byte to fill it with.
-pub fn lent(random: &mut Random, needed: usize) -> (usize, u8) {
-    let room = match random.below(8) {
-        0 => 0,
-        1 => random.below(needed + 20),
-        2 | 3 => needed,
-        _ => (needed + random.below(6)).saturating_sub(2),
-    };
-    (room, random.byte())
+pub const UNARY: [u8; 4] = [STRONG_NEXT, WEAK_NEXT, FINALLY, GLOBALLY];
+pub const BINARY: [u8; 5] = [AND, OR, UNTIL, RELEASE, WEAK_UNTIL];
+
+pub fn run_bytes(run: &[u32]) -> Vec<u8> {
+    run.iter().flat_map(|word| word.to_le_bytes()).collect()
 }
 
-pub fn every_bit(conditions: usize) -> u32 {
-    (0..conditions).fold(0, |word, c| word | 1 << c)
+pub fn truth(table: &[u8], run: &[u32], conditions: usize) -> Case {
+    Case { operation: TRUTH, table: table.to_vec(), more: run_bytes(run), conditions: conditions as u32, ..Case::default() }
+}
+
+pub fn trap(table: &[u8], conditions: usize, which: usize, lent: usize) -> Case {
+    let (conditions, which) = (conditions as u32, which as u32);
+    Case { operation: TRAP, table: table.to_vec(), conditions, which, lent, ..Case::default() }
+}
+
+pub fn witness(table: &[u8], run: &[u32], conditions: usize, which: usize, lent: usize) -> Case {
+    Case { operation: WITNESS, which: which as u32, lent, ..truth(table, run, conditions) }
+}
+
+/// List, sheet or page.
+pub fn of_file(operation: u32, file: &[u8], which: usize, lent: usize) -> Case {
+    Case { operation, table: file.to_vec(), which: which as u32, lent, ..Case::default() }
+}
+
+pub fn recorded(log: &[u8], limits: &[i32], lent: usize) -> Case {
+    let more = limits.iter().flat_map(|limit| limit.to_le_bytes()).collect();
+    Case { operation: RECORDED, table: log.to_vec(), more, lent, ..Case::default() }
+}
+
+/// Rows that are not yet named; a requirement ends with one.
+struct Growing {
+    rows: Vec<Row>,
+    open: Vec<usize>,
+}
+
+impl Growing {
+    fn take(&mut self, random: &mut Random) -> u8 {
+        let place = random.below(self.open.len());
+        self.open.swap_remove(place) as u8
+    }
+
+    fn put(&mut self, row: Row) {
+        self.open.push(self.rows.len());
+        self.rows.push(row);
+    }
+
+    fn unary(&mut self, random: &mut Random) {
+        let child = self.take(random);
+        let may_be_not = self.rows[usize::from(child)][0] == CONDITION && random.once_in(3);
+        let kind = if may_be_not { NOT } else { random.pick(&UNARY) };
+        self.put([kind, child, 0]);
+    }
 }
 
 fn leaf(random: &mut Random, conditions: usize) -> Row {
-    if random.one_in(10) {
-        row(random.pick(&[FALSE, TRUE]), 0, 0)
+    if random.once_in(12) {
+        [random.pick(&[FALSE, TRUE]), 0, 0]
     } else {
-        row(CONDITION, random.below(conditions), 0)
+        [CONDITION, random.below(conditions) as u8, 0]
     }
 }
 
-/// Rows of a tree of so many rows, children before their parent; the last is its root.
-fn grow(random: &mut Random, count: usize, conditions: usize, rows: &mut Vec<Row>) -> usize {
-    let next = match count {
-        1 => leaf(random, conditions),
-        2 if random.one_in(2) => {
-            rows.push(row(CONDITION, random.below(conditions), 0));
-            row(NOT, rows.len() - 1, 0)
+/// A requirement of exactly so many rows. Bushy ones have many leaves, others long ways.
+pub fn requirement(random: &mut Random, rows: usize, conditions: usize) -> Vec<Row> {
+    let bushy = random.between(1, 6);
+    let mut growing = Growing { rows: Vec::new(), open: Vec::new() };
+    for left in (0..rows).rev() {
+        let open = growing.open.len();
+        // After this row the open ones must still be joined, one less a row, in the rows left.
+        let must_join = open > left + 1;
+        if must_join || open > 1 && random.once_in(2) {
+            let (first, second) = (growing.take(random), growing.take(random));
+            growing.put([random.pick(&BINARY), first, second]);
+        } else if open == 0 || open <= left && random.below(8) < bushy {
+            growing.put(leaf(random, conditions));
+        } else {
+            growing.unary(random);
         }
-        _ if count == 2 || random.one_in(4) => {
-            let child = grow(random, count - 1, conditions, rows);
-            row(random.pick(&UNARY), child, 0)
-        }
-        _ => {
-            let left = random.between(1, count - 2);
-            let a = grow(random, left, conditions, rows);
-            let b = grow(random, count - 1 - left, conditions, rows);
-            row(random.pick(&BINARY), a, b)
-        }
-    };
-    rows.push(next);
-    rows.len() - 1
-}
-
-/// The same requirement with its rows in another order, children still lower.
-fn reordered(random: &mut Random, rows: &[Row]) -> Vec<Row> {
-    let mut at: Vec<Option<usize>> = vec![None; rows.len()];
-    let mut out = Vec::new();
-    while out.len() < rows.len() {
-        let ready: Vec<usize> = (0..rows.len()).filter(|&r| at[r].is_none() && rows[r].names().all(|n| at[n].is_some())).collect();
-        let r = random.pick(&ready);
-        let moved: Vec<usize> = rows[r].names().filter_map(|n| at[n]).collect();
-        let field = |k: usize, old: u8| moved.get(k).copied().unwrap_or(old as usize);
-        at[r] = Some(out.len());
-        out.push(row(rows[r].kind, field(0, rows[r].first), field(1, rows[r].second)));
     }
-    out
+    growing.rows
 }
 
-pub fn requirement(random: &mut Random, count: usize, conditions: usize) -> Vec<Row> {
-    let mut rows = Vec::new();
-    grow(random, count, conditions, &mut rows);
-    reordered(random, &rows)
-}
-
-/// A sound formula table: a row may be named often or never, "not" stands anywhere.
-pub fn table(random: &mut Random, count: usize, conditions: usize) -> Vec<Row> {
-    let mut rows = Vec::new();
-    for r in 0..count {
-        let lower = |random: &mut Random| if random.one_in(3) { random.below(r) } else { r - 1 - random.below(r.min(3)) };
-        let next = match random.below(5) {
-            _ if r == 0 => leaf(random, conditions),
-            0 => leaf(random, conditions),
-            1 => row(NOT, lower(random), 0),
-            2 => row(random.pick(&UNARY), lower(random), 0),
-            _ => row(random.pick(&BINARY), lower(random), lower(random)),
+/// Any formula table: rows may be named many times or never.
+pub fn table(random: &mut Random, rows: usize, conditions: usize) -> Vec<Row> {
+    let near = random.once_in(2);
+    let mut table: Vec<Row> = Vec::with_capacity(rows);
+    for number in 0..rows {
+        let lower = |random: &mut Random| {
+            let back = if near { 1 + random.below(number.min(4)) } else { 1 + random.below(number) };
+            (number - back) as u8
         };
-        rows.push(next);
+        let row = match random.below(10) {
+            _ if number == 0 => leaf(random, conditions),
+            0..=1 => leaf(random, conditions),
+            2 => [NOT, lower(random), 0],
+            3..=4 => [random.pick(&UNARY), lower(random), 0],
+            _ => [random.pick(&BINARY), lower(random), lower(random)],
+        };
+        table.push(row);
     }
-    rows
+    table
 }
 
-/// A run in one of several manners: even, mostly on, mostly off, slow changes, the same throughout.
+/// A run whose bits are rare, common, mostly true, in long stretches, or the same at all but a few steps.
 pub fn run(random: &mut Random, steps: usize, conditions: usize) -> Vec<u32> {
-    let mask = every_bit(conditions);
-    let manner = random.below(6);
-    let mut slow = random.next() as u32 & mask;
-    let mut word = |_| {
-        let (x, y) = (random.next() as u32, random.next() as u32);
-        slow = if random.one_in(3) { slow ^ 1 << random.below(conditions) } else { slow };
-        mask & match manner {
-            0 | 1 => x,
-            2 => x | y,
-            3 => x & y,
-            4 => slow,
-            _ => {
-                if slow & 1 == 1 {
-                    mask
-                } else {
-                    0
-                }
-            }
-        }
+    let mask = u32::MAX >> (32 - conditions);
+    let manner = random.below(8);
+    let mut word = random.word();
+    let mut step = || {
+        let rare = random.word() & random.word() & random.word();
+        word = match manner {
+            0 | 1 => random.word(),
+            2 => rare & random.word(),
+            3 => !(rare & random.word()),
+            4 => word ^ (rare & random.word()),
+            5 => rare,
+            _ => word,
+        };
+        word & mask
     };
-    (0..steps).map(&mut word).collect()
-}
-
-/// A run of which the requirement holds more often than of any.
-pub fn holding_run(random: &mut Random, rows: &[Row], steps: usize, conditions: usize) -> Vec<u32> {
-    let mut next = run(random, steps, conditions);
-    for _ in 0..3 {
-        if crate::truth::holds(rows, &next) {
-            break;
-        }
-        next = run(random, steps, conditions);
+    let mut run: Vec<u32> = (0..steps).map(|_| step()).collect();
+    let changes = if steps == 0 { 0 } else { random.below(4) };
+    for _ in 0..changes {
+        // At the ends as well as anywhere.
+        let anywhere = random.below(steps);
+        run[random.pick(&[0, steps - 1, anywhere, anywhere])] = random.word() & mask;
     }
-    next
+    run
 }
 
-pub fn suite(random: &mut Random, most_requirements: usize, most_rows: usize, most_runs: usize, most_steps: usize) -> Suite {
-    let conditions = random.sized(4, CONDITIONS, 6);
-    let requirements: Vec<Vec<Row>> = (0..random.between(1, most_requirements))
-        .map(|_| {
-            let count = random.between(1, most_rows);
-            requirement(random, count, conditions)
-        })
-        .collect();
-    let runs = (0..random.between(1, most_runs))
-        .map(|_| {
-            let (rows, steps) = (random.below(requirements.len()), random.between(1, most_steps));
-            holding_run(random, &requirements[rows], steps, conditions)
-        })
-        .collect();
-    Suite { conditions, requirements, runs }
+/// The most of each thing in a made suite.
+#[derive(Clone, Copy)]
+pub struct Most {
+    pub conditions: usize,
+    pub requirements: usize,
+    pub rows: usize,
+    pub runs: usize,
+    pub steps: usize,
 }
 
-/// Of a requirement and a run: its truth, and for each occurrence the witness and the truth of the trap table, which must be whether
-/// the pair is covered.
-pub fn pairs(random: &mut Random, rows: &[Row], run: &[u32], conditions: usize, batch: &mut Batch) {
-    let bytes = bytes_of(rows);
-    batch.add(operation::truth(&bytes, run, conditions));
-    for (which, &occurrence) in occurrences(rows).iter().enumerate() {
-        let case = operation::witness(&bytes, run, conditions, which, (run.len() + 1, random.byte()));
-        let covered = matches!(case.1.answer, Answer::Covered(_));
-        batch.add(case);
-        let trap = bytes_of(&trap::rows(rows, occurrence));
-        batch.add_given(operation::truth(&trap, run, conditions), if covered { Answer::Holds } else { Answer::Fails });
-        falsifies(rows, run, occurrence, covered, batch);
+pub fn suite(random: &mut Random, most: Most) -> Suite {
+    let conditions = random.between(1, most.conditions);
+    let (requirements, runs) = (random.between(1, most.requirements), random.between(1, most.runs));
+    let mut suite = Suite { conditions, requirements: Vec::new(), runs: Vec::new() };
+    for _ in 0..requirements {
+        let rows = random.between(1, most.rows);
+        suite.requirements.push(requirement(random, rows, conditions));
     }
-}
-
-/// The reference against itself: the witness makes a requirement false exactly where the pair is covered, and the set of columns agrees.
-pub fn falsifies(rows: &[Row], run: &[u32], occurrence: usize, covered: bool, batch: &mut Batch) {
-    let sequence = vec![cover::witness_byte(rows, occurrence) == 1; run.len()];
-    let flipped = crate::truth::holds(rows, run) && !cover::holds_with(rows, run, occurrence, &sequence);
-    assert!(flipped == covered, "the witness and coverage differ: {rows:?} {run:?} {occurrence}");
-    if let Some(reached) = cover::flips_by_reachable(rows, run, occurrence) {
-        let by_columns = crate::truth::holds(rows, run) && reached;
-        assert!(by_columns == covered, "the columns and coverage differ: {rows:?} {run:?} {occurrence}");
+    for _ in 0..runs {
+        let steps = random.between(1, most.steps);
+        suite.runs.push(run(random, steps, conditions));
     }
-    batch.own += 2;
+    suite
 }

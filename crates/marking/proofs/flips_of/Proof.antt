@@ -10,8 +10,8 @@ use Rattle.lengths.specs.Lengths.{mostRequirementRows}
 use Rattle.rows.specs.Rows.{Row}
 use Rattle.coverage.specs.Coverage.{witnessBit}
 use Rattle.lanes.specs.Lanes.{laneCount, lane}
+use Rattle.blocks.proofs.Stored.{stored-more}
 use Rattle.marking.specs.Flipped.{Witnesses}
-use Rattle.marking.proofs.Stored.{stored-more}
 use Rattle.marking.proofs.flips_of.Statement.{statement}
 use Rattle.marking.proofs.flips_of.Tie as tie
 

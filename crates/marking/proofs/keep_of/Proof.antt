@@ -17,8 +17,8 @@ use Rattle.rows.specs.Checks.{conditionAt}
 use Rattle.rows.proofs.Named.{one-of}
 use Rattle.lanes.specs.Lanes.{laneCount, lane}
 use Rattle.lanes.proofs.Bitwise.{lane-or}
+use Rattle.blocks.proofs.Stored.{stored-more}
 use Rattle.marking.specs.Flipped.{numberIn, Keeps}
-use Rattle.marking.proofs.Stored.{stored-more}
 use Rattle.marking.proofs.keep_of.Statement.{statement}
 use Rattle.marking.proofs.keep_of.Tie as tie
 

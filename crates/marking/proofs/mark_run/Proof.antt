@@ -60,22 +60,22 @@ few : (rows : List Row) → length rows ≤ mostRequirementRows → length (occu
 few rows l = omega (arith, size-most (length rows) (conditionAt rows))
 
 abbrev Inv-loop : tie.InvT-loop
-Inv-loop rows keep flips run marks₀ verdicts held column o₀ p₀ marks o p =
+Inv-loop rows keep flips run lines marks₀ verdicts held column o₀ p₀ marks o p =
     (p ≤ length rows) × (o ≡ numberIn rows p) × (o ≤ p) × (length marks ≡ 2048) × Here (markOf rows (wordsOf run)) column marks p
     × Others column marks₀ marks
 
 abbrev μ-loop : tie.MeasureT-loop
-μ-loop rows keep flips run marks₀ verdicts held column o₀ p₀ marks o p = length rows - p
+μ-loop rows keep flips run lines marks₀ verdicts held column o₀ p₀ marks o p = length rows - p
 
-judge-lanes-requires : tie.Need-judge-lanes-requires Inv-loop μ-loop
-judge-lanes-requires c κs = search needs
+judge-requires : tie.Need-judge-requires Inv-loop μ-loop
+judge-requires c κs = search needs
 
 in-lane-requires : tie.Need-in-lane-requires Inv-loop μ-loop
 in-lane-requires c κs = search needs
 
 loop-holds : tie.Need-loop-holds Inv-loop μ-loop
 unfolding below
-loop-holds c = (search needs, refl, search needs, c .before .before .before .pre .4, λ k l. absurd (omega arith), λ k i l apart. refl)
+loop-holds c = (search needs, refl, search needs, c .before .before .before .before .pre .4, λ k l. absurd (omega arith), λ k i l apart. refl)
 
 is-condition-requires : tie.Need-is-condition-requires Inv-loop μ-loop
 is-condition-requires c κs = search needs
@@ -108,18 +108,18 @@ loop-again : tie.Need-loop-again Inv-loop μ-loop
 loop-again c =
     let q = c .before .before .before .before .loop in
     let held = c .before .before .before .before .before in
-    let start = c .before .before .before .before .before .before .before .before in
+    let start = held .before .before .before .before in
     let rows = start .args .rows .now in
     let run = wordsOf (start .args .run .now) in
     let reads = c .before .before .is-condition in
     let ready = start .pre .0 in
-    let judged = held .before .judge-lanes in
+    let judged = held .before .judge in
     let j = start .args .j .0 in
     let in-width = start .pre .3 in
     let more = length-more (conditionAt rows) (q .p) in
     let here = one-of (reads .ensures) in
     let is = mark-is rows (ready .is) (ready .some-row) (few rows (ready .few-rows)) (start .args .keep .now) (start .args .flips .now) (start .pre .1)
-    run (judged .result) (judged .ensures) (start .pre .2 .some-step) (q .p) (omega arith) in (
+    run (judged .result) (judged .ensures .0) (start .pre .2 .some-step) (q .p) (omega arith) in (
       omega arith,
       omega (arith, c .one-if .ensures .0, more, here),
       omega (arith, c .one-if .ensures .1),
@@ -133,14 +133,14 @@ returns : tie.Need-returns Inv-loop μ-loop
 returns c =
     let q = c .before .loop in
     let held = c .before .before in
-    let start = c .before .before .before .before .before in
+    let start = held .before .before .before .before in
     let rows = start .args .rows .now in
     let ready = start .pre .0 in
-    let judged = held .before .judge-lanes in (
+    let judged = held .before .judge in (
       held .in-lane .ensures
           ∙ held-is rows (ready .is) (ready .some-row) (few rows (ready .few-rows)) (start .args .keep .now) (start .args .flips .now) (start .pre .1)
-          (wordsOf (start .args .run .now)) (judged .result) (judged .ensures),
-      record { same-length = q .inv .3 ∙ sym (start .pre .4); here = λ p l. q .inv .4 p (omega arith); others = q .inv .5 },
+          (wordsOf (start .args .run .now)) (judged .result) (judged .ensures .0),
+      (record { same-length = q .inv .3 ∙ sym (start .pre .4); here = λ p l. q .inv .4 p (omega arith); others = q .inv .5 }, judged .ensures .1),
     )
 
 pub mark-run-spec : {M : Type 1} → statement M
@@ -149,7 +149,7 @@ mark-run-spec =
     (tie.spec
     Inv-loop
     μ-loop
-    judge-lanes-requires
+    judge-requires
     in-lane-requires
     loop-holds
     is-condition-requires

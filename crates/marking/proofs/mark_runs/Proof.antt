@@ -16,6 +16,7 @@ use Rattle.rows.proofs.Named.{one-of}
 use Rattle.signals.specs.Truth.{holds}
 use Rattle.layout.specs.Layout.{form1}
 use Rattle.layout.specs.Checks.{wordsOf, runWordsIn}
+use Rattle.blocks.specs.Blocks.{blockWords}
 use Rattle.bench.specs.Coverage.{size}
 use Rattle.bench.specs.Files.{RunReady}
 use Rattle.bench.specs.Tables.{marked, markOf, Marked, ColumnMarked}
@@ -43,11 +44,12 @@ abbrev held : List ℕ → List Row → ℕ → Bool
 held file rows j = holds rows (runWordsIn form1 file j)
 
 abbrev Inv-loop : tie.InvT-loop
-Inv-loop file rows marks₀ keep flips many count₀ j₀ marks count j =
+Inv-loop file rows marks₀ keep flips lines₀ many count₀ j₀ marks lines count j =
     (j ≤ many) × (count ≡ size j (held file rows)) × (count ≤ j) × (length marks ≡ 2048) × Marked rows (runWordsIn form1 file) j marks
+    × (length lines ≡ blockWords)
 
 abbrev μ-loop : tie.MeasureT-loop
-μ-loop file rows marks₀ keep flips many count₀ j₀ marks count j = many - j
+μ-loop file rows marks₀ keep flips lines₀ many count₀ j₀ marks lines count j = many - j
 
 keep-of-requires : tie.Need-keep-of-requires Inv-loop μ-loop
 keep-of-requires c κs = search needs
@@ -57,21 +59,24 @@ flips-of-requires c κs = search needs
 
 loop-holds : tie.Need-loop-holds Inv-loop μ-loop
 unfolding below
-loop-holds c = (search needs, refl, search needs, c .before .before .before .pre .3, λ p j lp lj. absurd (omega arith))
+loop-holds c = (search needs, refl, search needs, c .before .before .before .pre .3, λ p j lp lj. absurd (omega arith), refl)
 
 run-bytes-requires : tie.Need-run-bytes-requires Inv-loop μ-loop
 run-bytes-requires c κs = search needs
 
 mark-run-requires : tie.Need-mark-run-requires Inv-loop μ-loop
 mark-run-requires c κs =
-    let q = c .before .before .before .before .before .loop in
-    let pre = c .before .before .before .before .before .before .before .before .before .pre in
+    let read = c .before .before .before .before in
+    let turn = read .before .before in
+    let q = turn .loop in
+    let pre = turn .before .before .before .before .pre in
     let few = pre .1 .few-runs in (
       pre .0,
-      record { keeps = c .before .before .before .before .before .before .before .keep-of .ensures; witnesses = c .before .before .before .before .before .before .flips-of .ensures },
-      subst RunReady (sym (ap wordsOf (c .before .before .before .run-bytes .ensures))) (pre .1 .run (q .j) (omega arith)),
+      record { keeps = turn .before .before .keep-of .ensures; witnesses = turn .before .flips-of .ensures },
+      subst RunReady (sym (ap wordsOf (read .run-bytes .ensures))) (pre .1 .run (q .j) (omega arith)),
       omega arith,
       q .inv .3,
+      q .inv .5,
     )
 
 one-if-requires : tie.Need-one-if-requires Inv-loop μ-loop
@@ -88,21 +93,24 @@ loop-less c = search needs
 
 loop-again : tie.Need-loop-again Inv-loop μ-loop
 loop-again c =
-    let q = c .before .before .before .before .before .before .before .loop in
-    let start = c .before .before .before .before .before .before .before .before .before .before .before in
+    let read = c .before .before .before .before .before .before in
+    let turn = read .before .before in
+    let q = turn .loop in
+    let start = turn .before .before .before .before in
     let file = start .args .file .now in
     let rows = start .args .rows .now in
     let few = start .pre .1 .few-runs in
-    let run = ap wordsOf (c .before .before .before .before .before .run-bytes .ensures) in
+    let run = ap wordsOf (read .run-bytes .ensures) in
     let marked = c .before .mark-run in
     let more = length-more (held file rows) (q .j) in
     let here = one-of (marked .ensures .0 ∙ ap (holds rows) run) in
-    let column = same-run run (marked .ensures .1) in (
+    let column = same-run run (marked .ensures .1 .0) in (
       omega arith,
       omega (arith, c .one-if .ensures .0, more, here),
       omega (arith, c .one-if .ensures .1),
       column .same-length ∙ q .inv .3,
       marked-more rows (runWordsIn form1 file) (omega arith) (q .inv .4) column,
+      marked .ensures .1 .1,
     )
 
 returns : tie.Need-returns Inv-loop μ-loop

@@ -1,0 +1,4 @@
+pub mod Lined
+pub mod Rowed
+pub mod Stored
+pub mod Stepped
