@@ -1,9 +1,9 @@
--- Texts put in order: one text more, how long they are together, and the loop that puts them.
+-- Texts put in order: one text more, how long they are together, those by two numbers, and the loop that puts them.
 -- Assumes nothing.
-use mathlib.Core.Path.{_≡_, _∙_, ap, subst}
-use mathlib.Core.List.{List, _++_}
-use Prim.Native.Nat.{ℕ, zero, suc, _+_, _*_, _≤_, _<_}
-use native.Mathlib.Nat.{mul-add, mul-suc, mul-le-mul-left}
+use mathlib.Core.Path.{_≡_, sym, _∙_, ap, ap₂, subst}
+use mathlib.Core.List.{List, _++_, append-nil, append-assoc}
+use Prim.Native.Nat.{ℕ, zero, suc, _+_, _*_, _/_, _%_, _≤_, _<_}
+use native.Mathlib.Nat.{add-zero, add-suc, add-mul, zero-mul, suc-mul, mul-add, mul-suc, mul-le-mul-left, mod-eq-of-lt, div-eq-of-lt-le, mul-add-mod-self-right}
 use native.Mathlib.Numerals.{add-one}
 use native.Mathlib.Omega.{arith}
 use lib.ListN.{length, length-append}
@@ -32,6 +32,27 @@ module _ (f : ℕ → List ℕ) where
       (m : ℕ) {before mid after : List ℕ} {at next : ℕ} → Put before at (inOrder m f) mid → next ≡ at + length (inOrder m f) → Put mid next (f m) after →
       Put before at (inOrder (m + 1) f) after
   put-more m p e q = rw (order-more m) (put-after p e q)
+
+-- texts by two numbers, the second below b: text n in order is that of n / b and n % b
+module _ (f : ℕ → ℕ → List ℕ) (b : ℕ) where
+  -- after all of the first numbers below a, those of a and the second numbers below j
+  order-next :
+      (a : ℕ) → inOrder (a * b) (λ n. f (n / b) (n % b)) ≡ inOrder a (λ i. inOrder b (f i)) → (j : ℕ) → j ≤ b →
+      inOrder (a * b + j) (λ n. f (n / b) (n % b)) ≡ inOrder a (λ i. inOrder b (f i)) ++ inOrder j (f a)
+  unfolding inOrder
+  order-next a all zero l = rw add-zero (all ∙ sym (append-nil _))
+  order-next a all (suc j) l =
+      let first : (a * b + j) / b ≡ a = div-eq-of-lt-le b (omega arith) (omega (arith, add-mul a 1 b)) in
+      let second : (a * b + j) % b ≡ j = mul-add-mod-self-right a b j ∙ mod-eq-of-lt l in
+      rw add-suc
+      (ap₂ _++_ (order-next a all j (omega arith)) (ap₂ f first second)
+      ∙ append-assoc (inOrder a (λ i. inOrder b (f i))) (inOrder j (f a)) (f a j))
+
+  -- by the first number and then by the second
+  pub order-nested : (a : ℕ) → inOrder (a * b) (λ n. f (n / b) (n % b)) ≡ inOrder a (λ i. inOrder b (f i))
+  unfolding inOrder
+  order-nested zero = rw zero-mul
+  order-nested (suc a) = rw suc-mul (order-next a (order-nested a) b (omega arith))
 
 -- of many texts, each of at most w bytes, those below j are put
 abbrev pub Passed : (ℕ → List ℕ) → ℕ → ℕ → List ℕ → ℕ → List ℕ → ℕ → ℕ → Type 0

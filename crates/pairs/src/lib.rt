@@ -7,13 +7,11 @@ ghost use lib.ListN.{length};
 ghost use Rattle.lengths.specs.Lengths.{mostRequirementRows};
 ghost use Rattle.limits.specs.Limits.{mostRuns};
 ghost use Rattle.lines.specs.Lines.{Put};
-ghost use Rattle.lines.specs.Texts.{inOrder};
 ghost use Rattle.bench.specs.Coverage.{pairsListed, pairBytes};
 ghost use Rattle.bench.specs.Tables.{marked};
 use bench::Marks;
 use figures::ByteCount;
 use figures::OccurrenceNumber;
-use figures::RowNumber;
 use figures::RunCount;
 use figures::RunNumber;
 
@@ -48,31 +46,7 @@ fn put_pair_if(
     }
 }
 
-// The pairs of one occurrence, which stands in row p: two bytes a marked run.
-fn list_pairs_of(
-    o: OccurrenceNumber,
-    p: RowNumber,
-    marks: &[bool; Marks::MANY],
-    runs: RunCount,
-    out: &mut [u8],
-    at: ByteCount,
-) -> ByteCount
-    requires { ⌜ (o .0 < 100) × (p .0 < mostRequirementRows) × (runs .0 ≤ mostRuns) × (at .0 + 2 * runs .0 ≤ length (now out)) ⌝ }
-    ensures { λ r. ⌜ (r .0 ≡ at .0 + length (inOrder (runs .0) (λ j. cond (marked (now (marks .entry)) (p .0) j) (o .0 ∷ j ∷ []) []))) × (r .0 ≤ at .0 + 2 * runs .0) ⌝ }
-    ensures { λ _. ⌜ Put (now (out .entry)) (at .0) (inOrder (runs .0) (λ j. cond (marked (now (marks .entry)) (p .0) j) (o .0 ∷ j ∷ []) [])) (now (out .exit)) ⌝ }
-{
-    let many = runs.0;
-    let mut end = at.0;
-    let mut j = 0;
-    while j < many {
-        let mark = covs::is_marked(marks, p, RunNumber(j));
-        end = put_pair_if(mark, o, RunNumber(j), out, ByteCount(end)).0;
-        j += 1;
-    }
-    ByteCount(end)
-}
-
-// The pairs of a requirement, by occurrence and then by run.
+// The pairs of a requirement, by occurrence and then by run: n counts the pairs, covered or not.
 pub fn list_pairs(
     rows: &[[u16; 3]],
     marks: &[bool; Marks::MANY],
@@ -84,13 +58,18 @@ pub fn list_pairs(
     ensures { λ r. ⌜ (r .0 ≡ at .0 + length (pairsListed (now (rows .entry)) (runs .0) (marked (now (marks .entry))) pairBytes)) × (r .0 ≤ at .0 + 2 * mostRuns * length (now (rows .entry))) ⌝ }
     ensures { λ _. ⌜ Put (now (out .entry)) (at .0) (pairsListed (now (rows .entry)) (runs .0) (marked (now (marks .entry))) pairBytes) (now (out .exit)) ⌝ }
 {
-    let many = occurrences::occurrence_count(rows).0;
+    let many = runs.0;
+    let occs = occurrences::occurrence_count(rows).0;
+    let pairs = occs * many;
     let mut end = at.0;
-    let mut o = 0;
-    while o < many {
-        let p = covs::row_of(rows, OccurrenceNumber(o));
-        end = list_pairs_of(OccurrenceNumber(o), p, marks, runs, out, ByteCount(end)).0;
-        o += 1;
+    let mut n = 0;
+    while n < pairs {
+        let o = OccurrenceNumber(n / many);
+        let j = RunNumber(n % many);
+        let p = covs::row_of(rows, o);
+        let mark = covs::is_marked(marks, p, j);
+        end = put_pair_if(mark, o, j, out, ByteCount(end)).0;
+        n += 1;
     }
     ByteCount(end)
 }
