@@ -20,7 +20,7 @@ use Rattle.laws.proofs.Given.{Beyond, either-iff, not-and, beyond-means, refuse
 use Rattle.laws.proofs.Lowest.{Holds}
 use Rattle.laws.proofs.Order.{Giving, Numbered, Never, instead, numbered-never, never-by, never-gives, never-then, skip-by, stop, stop-by, passes, passes-by, test-numbered, test-gives}
 use Rattle.laws.proofs.Passed.{Within}
-use Rattle.logs.specs.Log.{countBytes, stepsIn}
+use Rattle.encoder.specs.Log.{countBytes, stepsIn}
 use Rattle.logs.specs.LogRefusals.{logOf, stepsOf}
 use Rattle.logs.proofs.LaterSteps.{HalfTurnAt, reads, turns, turns-numbered, turns-pass, turns-refused}
 

@@ -15,7 +15,7 @@ use Rattle.figures.specs.Refusals.Outcome.{refused, gives}
 use Rattle.laws.proofs.Given.{not-both}
 use Rattle.laws.proofs.Lowest.{Holds, Lowest, lowest-is, lowest-some, lowest-none, lowest-holds}
 use Rattle.laws.proofs.Order.{Numbered, same-number}
-use Rattle.logs.specs.Log.{differenceIn, halfTurn, lowestHalfTurn, stepsIn}
+use Rattle.encoder.specs.Log.{differenceIn, halfTurn, lowestHalfTurn, stepsIn}
 use Rattle.logs.specs.LogRefusals.{turnsOf}
 
 -- whether the difference to a step from the one before can be read; step 0 has none

@@ -18,7 +18,7 @@ use Rattle.logs.specs.declared.LogAnswer.{LogAnswer}
 use Rattle.logs.specs.declared.LogAnswer.the-variants as log-answer
 use Rattle.logs.specs.declared.StepAnswer.{StepAnswer}
 use Rattle.logs.specs.declared.StepAnswer.the-variants as step-answer
-use Rattle.logs.specs.Log.{countBytes, stepsIn, lowestHalfTurn}
+use Rattle.encoder.specs.Log.{countBytes, stepsIn, lowestHalfTurn}
 
 -- one of document 01's refusals, or 17 at the later step
 abbrev pub logNumber : LogRefusal → ℕ

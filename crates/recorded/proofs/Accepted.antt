@@ -12,12 +12,13 @@ use Rattle.laws.proofs.Lowest.{Holds}
 use Rattle.laws.proofs.Order.{Passes, both-pass, lowest-passes}
 use Rattle.laws.proofs.Passed.{run-passes}
 use Rattle.laws.proofs.Tabulated.{length-tabulate, getD-tabulate}
-use Rattle.logs.specs.Log.{stepsIn, travel}
+use Rattle.encoder.specs.Log.{stepsIn, travel}
 use Rattle.signals.specs.Truth.{wordSound}
 use Rattle.truth.specs.Answers.{runChecked}
 use Rattle.layout.specs.Checks.{runFrom}
-use Rattle.recorded.specs.Recorded.{runMade, takenOf, wordBy}
-use Rattle.recorded.proofs.ConditionBits.{word-sound}
+use Rattle.log_words.specs.StepWord.{wordBy}
+use Rattle.log_words.proofs.WordBits.{word-sound}
+use Rattle.recorded.specs.Recorded.{runMade, takenOf}
 use Rattle.recorded.proofs.Given.{given-steps}
 
 module _ (log : List ℕ) (limits : List ℤ) (room n : ℕ) (taken : takenOf log limits room ≡ gives n) where

@@ -9,9 +9,10 @@ use Rattle.figures.specs.Refusals.Outcome.{refused, gives}
 use Rattle.lengths.specs.Lengths.{runOf}
 use Rattle.limits.specs.Limits.{suiteOf}
 use Rattle.figures.specs.Numbers.{lowest, tabulate}
-use Rattle.logs.specs.Log.{signed, travel, wrapped}
+use Rattle.encoder.specs.Log.{signed, travel, wrapped}
 use Rattle.logs.specs.LogRefusals.{logOf}
-use Rattle.recorded.specs.Recorded.{runMade, takenOf, wordBy}
+use Rattle.log_words.specs.StepWord.{wordBy}
+use Rattle.recorded.specs.Recorded.{runMade, takenOf}
 
 -- counts 65,535, 2 and 65,534
 abbrev log : List ℕ

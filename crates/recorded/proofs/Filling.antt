@@ -9,8 +9,9 @@ use lib.ListN.{length, drop, set}
 use lib.Seq.{take-all}
 use Rattle.laws.proofs.Parts.{copied, copy-more, length-copied}
 use Rattle.laws.proofs.Tabulated.{length-tabulate, getD-tabulate}
-use Rattle.logs.specs.Log.{stepsIn, travel}
-use Rattle.recorded.specs.Recorded.{runMade, wordBy}
+use Rattle.encoder.specs.Log.{stepsIn, travel}
+use Rattle.log_words.specs.StepWord.{wordBy}
+use Rattle.recorded.specs.Recorded.{runMade}
 
 module _ (limits : List ℤ) (log lent : List ℕ) (fits : stepsIn log ≤ length lent) where
   -- the lent words after so many turns

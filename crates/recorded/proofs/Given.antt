@@ -20,7 +20,7 @@ use Rattle.laws.proofs.Given.{Beyond, over-means, refused-when}
 use Rattle.laws.proofs.Lowest.{Holds}
 use Rattle.laws.proofs.Order.{Giving, Never, instead, numbered-never, never-by, passes, passes-by, skip, skip-by, stop, stop-by, test-gives, test-numbered}
 use Rattle.laws.proofs.Passed.{Within, lone-passes, lone-refused, suite-numbered}
-use Rattle.logs.specs.Log.{stepsIn}
+use Rattle.encoder.specs.Log.{stepsIn}
 use Rattle.logs.specs.LogRefusals.{logOf}
 use Rattle.logs.proofs.Given.{RightSteps, WrongSteps, never-else, given-10 as log-10, given-17 as log-17, given-steps as log-steps}
 use Rattle.logs.proofs.LaterSteps.{HalfTurnAt, reads}

@@ -1,4 +1,3 @@
-pub mod Words
 pub mod Filling
 pub mod ConditionBits
 pub mod Raising

@@ -11,9 +11,9 @@ use lib.ListN.{length}
 use lib.Signed.{leZ}
 use Rattle.figures.specs.Numbers.{below}
 use Rattle.laws.proofs.Below.{length-more}
-use Rattle.logs.specs.Log.{stepsIn, travel}
-use Rattle.logs.proofs.Sides.{le-sides, sides-le}
-use Rattle.recorded.specs.Recorded.{holdsAt}
+use Rattle.encoder.specs.Log.{stepsIn, travel}
+use Rattle.encoder.proofs.Sides.{le-sides, sides-le}
+use Rattle.log_words.specs.StepWord.{holdsAt}
 
 -- the steps of a log at which a condition with this limit holds
 abbrev pub stepsHeld : ℤ → List ℕ → List ℕ

@@ -1,30 +1,21 @@
 -- Taking in a recorded run: document 02, wish 5. Limits and travel are encoder counts; nothing here is in millimetres or inches.
 -- Assumes nothing.
-use mathlib.Core.Bool.{Bool, cond}
-use mathlib.Core.List.{List, [], _∷_}
-use Prim.Native.Nat.{ℕ, _+_, _*_}
+use mathlib.Core.Bool.{cond}
+use mathlib.Core.List.{List}
+use Prim.Native.Nat.{ℕ}
 use lib.Dec.{leb}
 use lib.IntN.{ℤ}
 use lib.ListN.{length}
-use lib.Signed.{leZ}
 use Rattle.figures.specs.declared.Refusal.the-variants.{ShortOutput}
 use Rattle.figures.specs.Refusals.{Outcome, refusal, _then_}
 use Rattle.figures.specs.Refusals.Outcome.{gives}
 use Rattle.limits.specs.Limits.{suiteOf}
 use Rattle.figures.specs.Numbers.{tabulate}
-use Rattle.logs.specs.Log.{stepsIn, travel}
+use Rattle.encoder.specs.Log.{stepsIn, travel}
 use Rattle.logs.specs.LogRefusals.{logOf, logRefusal}
+use Rattle.log_words.specs.StepWord.{wordBy}
 use Rattle.recorded.specs.declared.Taken.{Taken}
 use Rattle.recorded.specs.declared.Taken.the-variants as taken
-
--- "Condition c holds at a step when travel is at least its own signed 32-bit limit"
-abbrev pub holdsAt : ℤ → ℤ → Bool
-holdsAt limit travel = leZ limit travel
-
--- "a step is a 32-bit word, bit c holding condition c": the word of a step, by the limits and its travel
-unfoldable pub wordBy : List ℤ → ℤ → ℕ
-wordBy [] travel = 0
-wordBy (limit ∷ limits) travel = cond (holdsAt limit travel) 1 0 + 2 * wordBy limits travel
 
 -- "The result is a lone run": a word a step of the log
 abbrev pub runMade : List ℤ → List ℕ → List ℕ

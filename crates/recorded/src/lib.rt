@@ -1,62 +1,29 @@
 // Taking in a recorded run: an encoder log and the conditions' limits made into a lone run of words. All of it is in encoder counts, none
 // of it in millimetres or inches.
 ghost use mathlib.Core.Path.{_≡_};
-ghost use mathlib.Core.Bool.{cond};
 ghost use mathlib.Core.List.{_++_};
 ghost use Prim.Native.Nat.{_≤_};
 ghost use lib.ListN.{length, drop};
 ghost use Rattle.limits.specs.Limits.{mostConditions};
 ghost use Rattle.lengths.specs.Lengths.{mostSteps};
 ghost use Rattle.figures.specs.Outputs.{lentAfter};
-ghost use Rattle.logs.specs.Log.{stepsIn};
-ghost use Rattle.recorded.specs.Recorded.{holdsAt, roomFor, runMade, takenOf, takenSays, wordBy};
+ghost use Rattle.encoder.specs.Log.{stepsIn};
+ghost use Rattle.recorded.specs.Recorded.{roomFor, runMade, takenOf, takenSays};
+use encoder::EncoderCount;
+use encoder::Travel;
 use figures::ConditionCount;
 use figures::Refusal;
 use figures::StepCount;
 use figures::StepNumber;
 use limits::Suite;
 use limits::SuiteAnswer;
-use logs::EncoderCount;
 use logs::LogAnswer;
 use logs::LogRefusal;
-use logs::Travel;
-
-// The travel from which on a condition holds, in encoder counts.
-pub struct Limit(pub i32);
 
 // What taking in a run answers: how many words it wrote, one a step, or why it wrote none.
 pub enum Taken {
     Steps(StepCount),
     Refused(LogRefusal),
-}
-
-// Whether a condition holds at a step, by its limit and the travel at that step.
-pub fn holds(limit: Limit, travel: Travel) -> bool
-    ensures { λ r. ⌜ r ≡ holdsAt (limit .0) (travel .0) ⌝ }
-{
-    limit.0 <= travel.0
-}
-
-// The lowest bit of a word, for a condition that holds or not.
-fn low_bit(holds: bool) -> u32
-    ensures { λ r. ⌜ r ≡ cond holds 1 0 ⌝ }
-{
-    if holds { 1 } else { 0 }
-}
-
-// The word of a step: bit c is condition c, so the last limit comes first.
-pub fn word_of(limits: &[i32], travel: Travel) -> u32
-    requires { ⌜ length (now limits) ≤ mostConditions ⌝ }
-    ensures { λ r. ⌜ r ≡ wordBy (now (limits .entry)) (travel .0) ⌝ }
-{
-    let mut word = 0;
-    let mut c = limits.len();
-    while 0 < c {
-        c -= 1;
-        let holds = holds(Limit(limits[c]), travel);
-        word = low_bit(holds) + 2 * word;
-    }
-    word
 }
 
 // Writes the words of a log's steps to the front of what is lent.
@@ -68,9 +35,9 @@ fn put_words(log: &[u8], limits: &[i32], out: &mut [u32])
     let mut travel = Travel(0);
     let mut i = 0;
     while i < steps {
-        out[i] = word_of(limits, travel);
+        out[i] = log_words::word_of(limits, travel);
         // After the last step this reads past the log's end, and the travel is not used.
-        travel = logs::travel_after(log, StepNumber(i), travel);
+        travel = encoder::travel_after(log, StepNumber(i), travel);
         i += 1;
     }
 }

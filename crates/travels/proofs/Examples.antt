@@ -7,7 +7,7 @@ use Rattle.figures.specs.Numbers.{lowest}
 use Rattle.lengths.specs.Lengths.{runOf}
 use Rattle.lines.specs.Lines.{decimalBy, decimal, refusedLine}
 use Rattle.lines.specs.Texts.{inOrder}
-use Rattle.logs.specs.Log.{wrapped, signed, travel}
+use Rattle.encoder.specs.Log.{wrapped, signed, travel}
 use Rattle.logs.specs.LogRefusals.{logOf}
 use Rattle.travels.specs.Travels.{travelLine, travelPage}
 

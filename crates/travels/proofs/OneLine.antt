@@ -11,7 +11,7 @@ use Rattle.lengths.specs.Lengths.{mostSteps}
 use Rattle.lines.specs.Lines.{decimal, lineFeed}
 use Rattle.lines.proofs.Width.{width}
 use Rattle.lines.proofs.Written.{Text, Field, within, last, then-text, same-text}
-use Rattle.logs.specs.Log.{halfTurn}
+use Rattle.encoder.specs.Log.{halfTurn}
 use Rattle.travels.specs.Travels.{minus, travelLine}
 use Rattle.travels.proofs.Signs.{Tested, signed-line, plain-line}
 

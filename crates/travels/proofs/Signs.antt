@@ -15,8 +15,8 @@ use mir.Val.{Fits, SFits, toZ, ofZ}
 use mir.Facts.{toZ-ofZ}
 use Rattle.lengths.specs.Lengths.{mostSteps}
 use Rattle.lines.specs.Lines.{decimal, line}
-use Rattle.logs.specs.Log.{halfTurn}
-use Rattle.logs.proofs.Sides.{mag-size}
+use Rattle.encoder.specs.Log.{halfTurn}
+use Rattle.encoder.proofs.Sides.{mag-size}
 use Rattle.travels.specs.Travels.{minus, travelLine}
 
 -- a travel below 0, and one from 0 on: how far it is from 0, and its line

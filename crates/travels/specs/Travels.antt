@@ -7,7 +7,7 @@ use lib.ListN.{length}
 use Rattle.figures.specs.Refusals.{Outcome}
 use Rattle.lines.specs.Lines.{decimal, line}
 use Rattle.lines.specs.Texts.{inOrder, pageBy, textOf}
-use Rattle.logs.specs.Log.{stepsIn, travel}
+use Rattle.encoder.specs.Log.{stepsIn, travel}
 use Rattle.logs.specs.LogRefusals.{logOf}
 
 -- `-`

@@ -8,9 +8,10 @@ ghost use Rattle.figures.specs.Outputs.{outputSays, lentAfter};
 ghost use Rattle.io.specs.Counts.{Counts};
 ghost use Rattle.lines.specs.Lines.{Put};
 ghost use Rattle.lines.specs.Texts.{inOrder};
-ghost use Rattle.logs.specs.Log.{halfTurn, travel};
+ghost use Rattle.encoder.specs.Log.{halfTurn, travel};
 ghost use Rattle.travels.specs.Travels.{travelLine, travelPage, travelPageOf};
 ghost use Rattle.travels.specs.Room.{travelLineMost, travelPageMost};
+use encoder::Travel;
 use figures::ByteCount;
 use figures::Output;
 use figures::Refusal;
@@ -19,7 +20,6 @@ use figures::StepNumber;
 use lengths::Run;
 use lines::Field;
 use logs::LogAnswer;
-use logs::Travel;
 
 // The most bytes of a travel's line, which is a sign, nine digits and a line feed, and of a page, which has a line for each step.
 pub struct Longest(pub usize);
@@ -68,7 +68,7 @@ fn put_travels(log: &[u8], steps: StepCount, out: &mut [u8]) -> ByteCount
     let mut end = ByteCount(0);
     let mut k = 0;
     while k < many {
-        let next = logs::travel_after(log, StepNumber(k), gone);
+        let next = encoder::travel_after(log, StepNumber(k), gone);
         end = put_travel(gone, out, end);
         gone = next;
         k += 1;

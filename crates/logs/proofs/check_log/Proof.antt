@@ -11,7 +11,7 @@ use Rattle.figures.specs.Refusals.{Outcome, _then_}
 use Rattle.figures.specs.Refusals.Outcome.{gives}
 use Rattle.figures.proofs.Known.{said}
 use Rattle.laws.proofs.Passed.{run-passes}
-use Rattle.logs.specs.Log.{countBytes, lowestHalfTurn, stepsIn}
+use Rattle.encoder.specs.Log.{countBytes, lowestHalfTurn, stepsIn}
 use Rattle.logs.specs.LogRefusals.{logOf, turnsOf}
 use Rattle.logs.proofs.check_log.Statement.{statement}
 use Rattle.logs.proofs.check_log.Tie as tie

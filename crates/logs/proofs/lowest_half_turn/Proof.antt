@@ -9,7 +9,7 @@ use Prim.Native.Nat.{ℕ, _-_, _≤_}
 use borrow.Author.Tests.{eq-eqb, ne-eqb}
 use lib.Dec.{eqb}
 use Rattle.laws.proofs.Lowest.{Holds, passed-none, passed-more, stopped-at, passed-all}
-use Rattle.logs.specs.Log.{differenceIn, halfTurn, stepsIn}
+use Rattle.encoder.specs.Log.{differenceIn, halfTurn, stepsIn}
 use Rattle.logs.proofs.lowest_half_turn.Statement.{statement}
 use Rattle.logs.proofs.lowest_half_turn.Tie as tie
 

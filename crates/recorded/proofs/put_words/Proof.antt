@@ -7,7 +7,7 @@ use mathlib.Core.Path.{_≡_, refl, sym, _∙_, ap}
 use Prim.Native.Nat.{_-_, _≤_}
 use lib.ListN.{length}
 use Rattle.laws.proofs.Parts.{copied}
-use Rattle.logs.specs.Log.{stepsIn, travel}
+use Rattle.encoder.specs.Log.{stepsIn, travel}
 use Rattle.recorded.specs.Recorded.{runMade}
 use Rattle.recorded.proofs.Filling.{length-out, word-put, all-put}
 use Rattle.recorded.proofs.put_words.Statement.{statement}

@@ -14,7 +14,7 @@ use Rattle.figures.proofs.Known.{said}
 use Rattle.lines.specs.Lines.{Put}
 use Rattle.lines.specs.Texts.{inOrder, pageBy}
 use Rattle.lines.proofs.Filled.{Filled, filled}
-use Rattle.logs.specs.Log.{travel}
+use Rattle.encoder.specs.Log.{travel}
 use Rattle.logs.specs.LogRefusals.{logOf, logSays}
 use Rattle.logs.proofs.Given.{given-steps}
 use Rattle.travels.specs.Travels.{travelLine, travelText, travelPage}

@@ -10,8 +10,8 @@ use lib.IntN.{ℤ, pos, natAbs}
 use Rattle.lengths.specs.Lengths.{mostSteps}
 use Rattle.lines.proofs.InOrder.{Passed, passed-none, passed-room, passed-more, passed-all}
 use Rattle.lines.proofs.Written.{same-text, from-start}
-use Rattle.logs.specs.Log.{halfTurn, travel}
-use Rattle.logs.proofs.Bounds.{travel-size}
+use Rattle.encoder.specs.Log.{halfTurn, travel}
+use Rattle.encoder.proofs.Bounds.{travel-size}
 use Rattle.travels.specs.Travels.{travelLine}
 use Rattle.travels.proofs.put_travels.Statement.{statement}
 use Rattle.travels.proofs.put_travels.Tie as tie

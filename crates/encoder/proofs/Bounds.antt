@@ -7,9 +7,9 @@ use lib.IntN.{natAbs}
 use mir.Syntax.{w32}
 use mir.Val.{SFits}
 use Rattle.lengths.specs.Lengths.{mostSteps}
-use Rattle.logs.specs.Log.{halfTurn, signed, differenceIn, travel}
-use Rattle.logs.proofs.Sides.{mag-size, size-sum}
-use Rattle.logs.proofs.Readings.{wrapped-less, read-size}
+use Rattle.encoder.specs.Log.{halfTurn, signed, differenceIn, travel}
+use Rattle.encoder.proofs.Sides.{mag-size, size-sum}
+use Rattle.encoder.proofs.Readings.{wrapped-less, read-size}
 
 module _ (log : List ℕ) where
   pub travel-size : (k : ℕ) → natAbs (travel log k) ≤ halfTurn * k

@@ -1,4 +1,4 @@
--- `recorded::word_of` meets its contract: the limits from the last one on make up the word, each as its lowest bit in its turn.
+-- `log_words::word_of` meets its contract: the limits from the last one on make up the word, each as its lowest bit in its turn.
 -- Assumes nothing.
 use borrow.Author.Needs.{needs}
 use native.Mathlib.Omega.{arith}
@@ -10,10 +10,10 @@ use lib.IntN.{ℤ, pos}
 use lib.ListN.{length, drop, getD}
 use mir.Syntax.{w32}
 use mir.ValLaws.{toZ-ofZ}
-use Rattle.recorded.specs.Recorded.{holdsAt, wordBy}
-use Rattle.recorded.proofs.Words.{word-none, turn, turn-fits}
-use Rattle.recorded.proofs.word_of.Statement.{statement}
-use Rattle.recorded.proofs.word_of.Tie as tie
+use Rattle.log_words.specs.StepWord.{holdsAt, wordBy}
+use Rattle.log_words.proofs.Words.{word-none, turn, turn-fits}
+use Rattle.log_words.proofs.word_of.Statement.{statement}
+use Rattle.log_words.proofs.word_of.Tie as tie
 
 abbrev Inv-loop : tie.InvT-loop
 Inv-loop limits travel word₀ c₀ word c = (c ≤ length limits) × (word ≡ wordBy (drop c limits) (travel .0))

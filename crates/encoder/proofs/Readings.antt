@@ -10,8 +10,8 @@ use lib.IntN.{pos, negℤ, natAbs, _-ℤ_}
 use lib.Signed.{leZ}
 use mir.Syntax.{w32}
 use mir.Val.{SFits}
-use Rattle.logs.specs.Log.{turn, halfTurn, wrapped, signed}
-use Rattle.logs.proofs.Sides.{up, down, negative, size, mag-size, sides-le}
+use Rattle.encoder.specs.Log.{turn, halfTurn, wrapped, signed}
+use Rattle.encoder.proofs.Sides.{up, down, negative, size, mag-size, sides-le}
 
 -- the wrapped difference is the one number below a turn that leads from the one count to the other
 pub wrapped-is : (from to d : ℕ) → from < turn → to < turn → d < turn → (d + from) % turn ≡ to → d ≡ wrapped from to

@@ -1,11 +1,11 @@
--- `logs::difference_at` meets its contract: it is the wrapped difference of the counts at the two steps.
+-- `encoder::difference_at` meets its contract: it is the wrapped difference of the counts at the two steps.
 -- Assumes nothing.
 use borrow.Author.Needs.{needs}
 use mathlib.Core.Path.{_∙_, ap, ap₂}
 use native.Mathlib.Numerals.{add-one}
-use Rattle.logs.specs.Log.{countIn, wrapped}
-use Rattle.logs.proofs.difference_at.Statement.{statement}
-use Rattle.logs.proofs.difference_at.Tie as tie
+use Rattle.encoder.specs.Log.{countIn, wrapped}
+use Rattle.encoder.proofs.difference_at.Statement.{statement}
+use Rattle.encoder.proofs.difference_at.Tie as tie
 
 count-at-requires : tie.Need-count-at-requires
 count-at-requires c κs = search needs

@@ -1,14 +1,14 @@
--- `logs::travel_after` meets its contract: travel so far is small enough to add one difference more.
+-- `encoder::travel_after` meets its contract: travel so far is small enough to add one difference more.
 -- Assumes nothing.
 use borrow.Author.Needs.{needs}
 use native.Mathlib.Omega.{arith}
 use mathlib.Core.Path.{_∙_, ap, ap₂}
 use Prim.Native.Nat.{ℕ}
 use lib.IntN.{ℤ, natAbs, _+ℤ_}
-use Rattle.logs.specs.Log.{signed, travel}
-use Rattle.logs.proofs.Bounds.{travel-size}
-use Rattle.logs.proofs.travel_after.Statement.{statement}
-use Rattle.logs.proofs.travel_after.Tie as tie
+use Rattle.encoder.specs.Log.{signed, travel}
+use Rattle.encoder.proofs.Bounds.{travel-size}
+use Rattle.encoder.proofs.travel_after.Statement.{statement}
+use Rattle.encoder.proofs.travel_after.Tie as tie
 
 difference-at-requires : tie.Need-difference-at-requires
 difference-at-requires c κs = search needs

@@ -10,7 +10,7 @@ use lib.IntN.{ℤ, pos}
 use lib.ListN.{length, getD, drop, drop-of-length-le, length-drop}
 use lib.Pow.{pow-mono}
 use lib.Seq.{drop-cons}
-use Rattle.recorded.specs.Recorded.{holdsAt, wordBy}
+use Rattle.log_words.specs.StepWord.{holdsAt, wordBy}
 
 pub bit-less : (b : Bool) → cond b 1 0 < 2
 bit-less true = omega arith

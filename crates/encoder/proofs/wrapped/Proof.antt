@@ -1,9 +1,9 @@
--- `logs::wrapped` meets its contract: what the library's wrapping difference ensures has one number below a turn.
+-- `encoder::wrapped` meets its contract: what the library's wrapping difference ensures has one number below a turn.
 -- Assumes nothing.
 use borrow.Author.Needs.{needs}
-use Rattle.logs.proofs.Readings.{wrapped-is}
-use Rattle.logs.proofs.wrapped.Statement.{statement}
-use Rattle.logs.proofs.wrapped.Tie as tie
+use Rattle.encoder.proofs.Readings.{wrapped-is}
+use Rattle.encoder.proofs.wrapped.Statement.{statement}
+use Rattle.encoder.proofs.wrapped.Tie as tie
 
 wrapping-sub-u16-requires : tie.Need-wrapping-sub-u16-requires
 wrapping-sub-u16-requires c κs = search needs

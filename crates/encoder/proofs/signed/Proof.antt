@@ -1,4 +1,4 @@
--- `logs::signed` meets its contract: the two casts keep the number, and a turn is taken off from half a turn on.
+-- `encoder::signed` meets its contract: the two casts keep the number, and a turn is taken off from half a turn on.
 -- Assumes nothing.
 use borrow.Author.Needs.{needs}
 use native.Mathlib.Omega.{arith}
@@ -7,10 +7,10 @@ use lib.IntN.{ℤ, pos, _-ℤ_}
 use mir.Syntax.{w32}
 use mir.Val.{SFits, toZ}
 use mir.ValLaws.{toZ-pos, toZ-ofZ}
-use Rattle.logs.specs.Log.{turn, signed}
-use Rattle.logs.proofs.Readings.{read-front, read-less, read-fits}
-use Rattle.logs.proofs.signed.Statement.{statement}
-use Rattle.logs.proofs.signed.Tie as tie
+use Rattle.encoder.specs.Log.{turn, signed}
+use Rattle.encoder.proofs.Readings.{read-front, read-less, read-fits}
+use Rattle.encoder.proofs.signed.Statement.{statement}
+use Rattle.encoder.proofs.signed.Tie as tie
 
 cast-t5 : tie.Need-cast-t5
 cast-t5 c = search needs

@@ -1,4 +1,4 @@
--- `logs::add` meets its contract: both numbers and their sum are small enough for the machine's.
+-- `encoder::add` meets its contract: both numbers and their sum are small enough for the machine's.
 -- Assumes nothing.
 use borrow.Author.Needs.{needs}
 use native.Mathlib.Omega.{arith}
@@ -7,11 +7,11 @@ use lib.IntN.{ℤ, _+ℤ_}
 use mir.Syntax.{w32}
 use mir.Val.{SFits, toZ, ofZ}
 use mir.ValLaws.{toZ-ofZ}
-use Rattle.logs.specs.Log.{signed}
-use Rattle.logs.proofs.Sides.{mag-size, size-sum}
-use Rattle.logs.proofs.Readings.{read-size, read-fits}
-use Rattle.logs.proofs.add.Statement.{statement}
-use Rattle.logs.proofs.add.Tie as tie
+use Rattle.encoder.specs.Log.{signed}
+use Rattle.encoder.proofs.Sides.{mag-size, size-sum}
+use Rattle.encoder.proofs.Readings.{read-size, read-fits}
+use Rattle.encoder.proofs.add.Statement.{statement}
+use Rattle.encoder.proofs.add.Tie as tie
 
 signed-requires : tie.Need-signed-requires
 signed-requires c κs = search needs

@@ -6,9 +6,9 @@ use Prim.Native.Nat.{ℕ, zero, suc, _+_, _*_, _≤_, _<_}
 use native.Mathlib.Omega.{arith}
 use lib.ListN.{getD}
 use lib.IntN.{ℤ, pos, natAbs, negℤ, _+ℤ_, _-ℤ_, _*ℤ_, +ℤ-invr}
-use Rattle.logs.specs.Log.{turn, halfTurn, countBytes, countIn, wrapped, signed, travel}
-use Rattle.logs.proofs.Sides.{up, down, same, sum, negative, multiple, size}
-use Rattle.logs.proofs.Readings.{wrapped-leads, wrapped-less, reading}
+use Rattle.encoder.specs.Log.{turn, halfTurn, countBytes, countIn, wrapped, signed, travel}
+use Rattle.encoder.proofs.Sides.{up, down, same, sum, negative, multiple, size}
+use Rattle.encoder.proofs.Readings.{wrapped-leads, wrapped-less, reading}
 
 -- a position, by its count and its whole turns
 abbrev pub At : ℕ → ℤ → ℤ → Type 0

@@ -1,8 +1,8 @@
--- `recorded::low_bit` meets its contract: 1 for a condition that holds, 0 for one that does not.
+-- `log_words::low_bit` meets its contract: 1 for a condition that holds, 0 for one that does not.
 -- Assumes nothing.
 use borrow.Author.Needs.{needs}
-use Rattle.recorded.proofs.low_bit.Statement.{statement}
-use Rattle.recorded.proofs.low_bit.Tie as tie
+use Rattle.log_words.proofs.low_bit.Statement.{statement}
+use Rattle.log_words.proofs.low_bit.Tie as tie
 
 returns : tie.Need-returns
 returns c = search needs

@@ -1,0 +1,4 @@
+pub mod Sides
+pub mod Readings
+pub mod Bounds
+pub mod TrueTravel
