@@ -1,4 +1,4 @@
-// An encoder log: counts, differences and travel, in encoder counts.
+// An encoder log: counts, differences and travel, all in encoder counts, none of it in millimetres or inches.
 ghost use mathlib.Core.Path.{_≡_};
 ghost use Prim.Native.Nat.{suc, _≤_, _<_, _*_};
 ghost use lib.IntN.{natAbs, _+ℤ_};
