@@ -63,11 +63,11 @@ fn put_lines(
     while r < rows.len() {
         let row = rows[r];
         let kind = row[0];
-        let first = columns::index_of(row[1]);
+        let first = readings::index_of(row[1]);
         let line = Line {
             row: r,
             first: first,
-            second: columns::index_of(row[2]),
+            second: readings::index_of(row[2]),
             keep: keep[r],
             flips: flips[r],
             first_after: after[first],
