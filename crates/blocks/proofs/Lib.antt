@@ -1,4 +1,3 @@
-pub mod Lined
 pub mod Rowed
 pub mod Stored
 pub mod Stepped

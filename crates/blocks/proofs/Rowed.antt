@@ -17,8 +17,9 @@ use Rattle.signals.specs.Column.{cell, FitIn}
 use Rattle.signal_laws.proofs.Model.{All-map, Lower, truth-model}
 use Rattle.signal_laws.proofs.Cells.{row-cell, cell-cong, cell-last}
 use Rattle.lanes.specs.Lanes.{laneCount, lane}
-use Rattle.blocks.specs.declared.Line.{Line}
-use Rattle.blocks.specs.Blocks.{blockSteps, lineAt, aheadAt, laneReads, Lined, ColumnTrue, LineTrue, BlockTrue}
+use Rattle.row_lines.specs.declared.Line.{Line}
+use Rattle.row_lines.specs.RowLines.{blockSteps, lineAt, aheadAt, Lined}
+use Rattle.blocks.specs.Blocks.{laneReads, ColumnTrue, LineTrue, BlockTrue}
 
 -- row r as it is to be judged over a block, f and s its fields
 abbrev pub lineOf : List ℕ → List ℕ → List ℕ → Bool → ℕ → ℕ → ℕ → Line

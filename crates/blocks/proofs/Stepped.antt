@@ -18,7 +18,8 @@ use Rattle.little.specs.Little.{littleAt}
 use Rattle.layout.specs.Layout.{wordSize}
 use Rattle.layout.specs.Checks.{wordsOf}
 use Rattle.suite_laws.proofs.Little.{read-there}
-use Rattle.blocks.specs.Blocks.{lineAt, laneReads, ColumnTrue, BlockTrue}
+use Rattle.row_lines.specs.RowLines.{lineAt}
+use Rattle.blocks.specs.Blocks.{laneReads, ColumnTrue, BlockTrue}
 
 -- the word that is read of a run's bytes from step i on
 pub step-word :

@@ -8,62 +8,14 @@ ghost use Rattle.signals.specs.Column.{FitIn};
 ghost use Rattle.layout.specs.Layout.{wordSize};
 ghost use Rattle.layout.specs.Checks.{wordsOf};
 ghost use Rattle.lanes.specs.Lanes.{laneCount, lane};
-ghost use Rattle.blocks.specs.Blocks.{blockSteps, blockWords, lineAt, laneReads, Fits, Lined, BlockTrue};
-use figures::ConditionNumber;
+ghost use Rattle.row_lines.specs.RowLines.{blockSteps, blockWords, lineAt, Fits, Lined};
+ghost use Rattle.blocks.specs.Blocks.{laneReads, BlockTrue};
 use layout::Form;
 use lengths::Requirement;
+use row_lines::Block;
+use row_lines::Line;
 
-// A block of steps. The words of a row at its steps are the row's line; the lines of all rows stand one after another.
-pub struct Block(pub usize);
-
-impl Block {
-    // The most steps of a block, and the words of its lines.
-    pub const STEPS: usize = 64;
-
-    pub const WORDS: usize = 2048;
-}
-
-// A row to be judged over a block: its number, its fields, in which lanes it reads the run and what it reads in the others, what its first
-// child and the row itself have at the step after the block, and whether there is no such step.
-pub struct Line {
-    pub row: usize,
-    pub first: usize,
-    pub second: usize,
-    pub keep: u64,
-    pub flips: u64,
-    pub first_after: u64,
-    pub row_after: u64,
-    pub last: bool,
-}
-
-// The line of a row of a kind, from the block's last step to its first.
-fn put_line(
-    kind: u16,
-    line: Line,
-    words: &[u32; Block::STEPS],
-    steps: usize,
-    lines: &mut [u64; Block::WORDS],
-)
-    requires { ⌜ Fits line × (steps ≤ blockSteps) × (length (now lines) ≡ blockWords) ⌝ }
-    ensures { λ _. ⌜ Lined kind line (now (words .entry)) steps (now (lines .entry)) (now (lines .exit)) ⌝ }
-{
-    let mut a_next = line.first_after;
-    let mut next = line.row_after;
-    let mut ends = lanes::in_all(line.last);
-    let mut t = steps;
-    while 0 < t {
-        t -= 1;
-        let a = lines[Block::STEPS * line.first + t];
-        let b = lines[Block::STEPS * line.second + t];
-        let own = lanes::own_lanes(words[t], ConditionNumber(line.first), line.keep, line.flips);
-        next = lanes::lane_cell(kind, own, a, b, a_next, next, ends);
-        ends = 0;
-        lines[Block::STEPS * line.row + t] = next;
-        a_next = a;
-    }
-}
-
-// The same, with a loop for each kind: the compiler makes them of the one above, so that no step asks for the kind.
+// The line of a row of a kind, with a loop for each kind: the compiler makes them of the one of `row_lines`, so that no step asks for the kind.
 fn line_by_kind(
     kind: u16,
     line: Line,
@@ -75,20 +27,20 @@ fn line_by_kind(
     ensures { λ _. ⌜ Lined kind line (now (words .entry)) steps (now (lines .entry)) (now (lines .exit)) ⌝ }
 {
     match kind {
-        0 => put_line(0, line, words, steps, lines),
-        1 => put_line(1, line, words, steps, lines),
-        2 => put_line(2, line, words, steps, lines),
-        3 => put_line(3, line, words, steps, lines),
-        4 => put_line(4, line, words, steps, lines),
-        5 => put_line(5, line, words, steps, lines),
-        6 => put_line(6, line, words, steps, lines),
-        7 => put_line(7, line, words, steps, lines),
-        8 => put_line(8, line, words, steps, lines),
-        9 => put_line(9, line, words, steps, lines),
-        10 => put_line(10, line, words, steps, lines),
-        11 => put_line(11, line, words, steps, lines),
-        12 => put_line(12, line, words, steps, lines),
-        _ => put_line(13, line, words, steps, lines),
+        0 => row_lines::put_line(0, line, words, steps, lines),
+        1 => row_lines::put_line(1, line, words, steps, lines),
+        2 => row_lines::put_line(2, line, words, steps, lines),
+        3 => row_lines::put_line(3, line, words, steps, lines),
+        4 => row_lines::put_line(4, line, words, steps, lines),
+        5 => row_lines::put_line(5, line, words, steps, lines),
+        6 => row_lines::put_line(6, line, words, steps, lines),
+        7 => row_lines::put_line(7, line, words, steps, lines),
+        8 => row_lines::put_line(8, line, words, steps, lines),
+        9 => row_lines::put_line(9, line, words, steps, lines),
+        10 => row_lines::put_line(10, line, words, steps, lines),
+        11 => row_lines::put_line(11, line, words, steps, lines),
+        12 => row_lines::put_line(12, line, words, steps, lines),
+        _ => row_lines::put_line(13, line, words, steps, lines),
     }
 }
 
@@ -111,11 +63,11 @@ fn put_lines(
     while r < rows.len() {
         let row = rows[r];
         let kind = row[0];
-        let first = columns::index_of(row[1]);
+        let first = readings::index_of(row[1]);
         let line = Line {
             row: r,
             first: first,
-            second: columns::index_of(row[2]),
+            second: readings::index_of(row[2]),
             keep: keep[r],
             flips: flips[r],
             first_after: after[first],

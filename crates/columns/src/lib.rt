@@ -4,54 +4,13 @@ ghost use Prim.Native.Nat.{_<_};
 ghost use lib.ListN.{length};
 ghost use Rattle.lengths.specs.Lengths.{mostTableRows};
 ghost use Rattle.signals.specs.Truth.{verdictOf};
-ghost use Rattle.signals.specs.Column.{cell, Cells, Fit, readOf, readsAt, ownBy, readingOf};
+ghost use Rattle.signals.specs.Column.{Cells, Fit, ownBy, readingOf};
 use figures::ConditionNumber;
 use figures::RowNumber;
 use figures::StepNumber;
 use lengths::Table;
 use signals::Flip;
 use signals::Reads;
-
-// A field of a row as a place in a column.
-pub fn index_of(field: u16) -> usize
-    ensures { λ r. ⌜ r ≡ field ⌝ }
-{
-    field as usize
-}
-
-// What a row that reads a condition reads at a step.
-fn read(reads: Reads, condition: ConditionNumber, r: RowNumber) -> bool
-    ensures { λ b. ⌜ b ≡ readOf reads (condition .0) (r .0) ⌝ }
-{
-    match reads {
-        Reads::Word(word) => signals::bit_of(word, condition),
-        Reads::Flipped(word, flipped, value) => {
-            let at = flipped.0;
-            if r.0 == at {
-                value
-            } else {
-                signals::bit_of(word, condition)
-            }
-        }
-    }
-}
-
-// What the condition rows read at step i: past the end of the sequence a flipped row reads false.
-fn reads_at(word: u32, flip: Flip, sequence: &[u8], i: StepNumber) -> Reads
-    ensures { λ r. ⌜ r ≡ readsAt word flip (now (sequence .entry)) (i .0) ⌝ }
-{
-    match flip {
-        Flip::Nowhere => Reads::Word(word),
-        Flip::At(flipped) => {
-            let at = i.0;
-            if at < sequence.len() {
-                Reads::Flipped(word, flipped, sequence[at] != 0)
-            } else {
-                Reads::Flipped(word, flipped, false)
-            }
-        }
-    }
-}
 
 // The column of the step in hand, from what is read at it and the column of the step after it.
 fn column(
@@ -69,9 +28,9 @@ fn column(
     let mut r = 0;
     while r < rows.len() {
         let row = rows[r];
-        let first = index_of(row[1]);
-        let second = index_of(row[2]);
-        let own = read(reads, ConditionNumber(first), RowNumber(r));
+        let first = readings::index_of(row[1]);
+        let second = readings::index_of(row[2]);
+        let own = readings::read(reads, ConditionNumber(first), RowNumber(r));
         here[r] = signals::cell(
             row[0],
             own,
@@ -97,7 +56,7 @@ pub fn judge(rows: &[[u16; 3]], run: &[u32], flip: Flip, sequence: &[u8]) -> boo
     let mut i = steps;
     while 0 < i {
         i -= 1;
-        let reads = reads_at(run[i], flip, sequence, StepNumber(i));
+        let reads = readings::reads_at(run[i], flip, sequence, StepNumber(i));
         column(rows, reads, &after, i + 1 == steps, &mut here);
         after = here;
     }

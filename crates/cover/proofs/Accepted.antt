@@ -15,7 +15,7 @@ use Rattle.rows.specs.Rows.{Row}
 use Rattle.rows.specs.Checks.{conditionAt, occurrenceOf, rowsChecked, requirementChecked, requirementRows}
 use Rattle.row_laws.proofs.Occurring.{occurrence-condition}
 use Rattle.row_laws.proofs.Sound.{requirement}
-use Rattle.truth.specs.Answers.{runChecked}
+use Rattle.run_checks.specs.RunChecks.{runChecked}
 use Rattle.truth.proofs.Accepted.{fit}
 use Rattle.flips.specs.Pair.{Pair}
 

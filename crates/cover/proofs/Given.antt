@@ -29,7 +29,7 @@ use Rattle.rows.specs.Checks.{isCondition, IsRequirement, requirementSized, req
 use Rattle.row_laws.proofs.Occurring.{occurrence-numbered, occurrence-gives, given-12 as no-occurrence}
 use Rattle.row_laws.proofs.Taken.{taken, Taken, taken-passes, never-taken}
 use Rattle.signals.specs.Truth.{Reading, readsOf, verdictOf, wordSound, lowestStray, sequenceOf}
-use Rattle.truth.specs.Answers.{runChecked}
+use Rattle.run_checks.specs.RunChecks.{runChecked}
 use Rattle.signal_laws.proofs.Bools.{right}
 use Rattle.cover.specs.declared.Witnessed.{Witnessed}
 use Rattle.cover.specs.declared.Witnessed.the-variants as witness

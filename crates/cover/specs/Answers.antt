@@ -14,7 +14,7 @@ use Rattle.rows.specs.Rows.{Row}
 use Rattle.codec.specs.Codec.{rowsOf}
 use Rattle.rows.specs.Checks.{requirementSized, requirementRows, occurrences, occurrenceOf}
 use Rattle.signals.specs.Truth.{readsOf, flip, verdictOf, sequenceOf}
-use Rattle.truth.specs.Answers.{runChecked}
+use Rattle.run_checks.specs.RunChecks.{runChecked}
 use Rattle.cover.specs.declared.Witnessed.{Witnessed}
 use Rattle.cover.specs.declared.Witnessed.the-variants as witness
 use Rattle.coverage.specs.Coverage.{covered}

@@ -59,7 +59,7 @@ fn witness_of_rows(
     if let Check::Refused(r) = row_checks::check_requirement_rows(rows, conditions) {
         return Witnessed::Refused(r);
     }
-    if let Check::Refused(r) = truth::check_run(run, conditions) {
+    if let Check::Refused(r) = run_checks::check_run(run, conditions) {
         return Witnessed::Refused(r);
     }
     match occurrences::occurrence_of(rows, occurrence) {

@@ -8,7 +8,7 @@ use Rattle.limits.specs.Limits.{mostConditions, mostRequirements, mostRuns, mos
 use Rattle.figures.specs.Refusals.Outcome.{gives}
 use Rattle.rows.specs.Rows.{Row, kindNumber, first, second}
 use Rattle.rows.specs.Checks.{requirementRows}
-use Rattle.truth.specs.Answers.{runChecked}
+use Rattle.run_checks.specs.RunChecks.{runChecked}
 use Rattle.layout.specs.Layout.{Layout, headSize, wordSize}
 use Rattle.little.specs.Little.{little}
 

@@ -7,20 +7,20 @@ ghost use Rattle.lengths.specs.Lengths.{mostRequirementRows};
 ghost use Rattle.signals.specs.Truth.{holds};
 ghost use Rattle.layout.specs.Layout.{form1, runsIn};
 ghost use Rattle.layout.specs.Checks.{wordsOf, runWordsIn};
-ghost use Rattle.blocks.specs.Blocks.{blockWords};
+ghost use Rattle.row_lines.specs.RowLines.{blockWords};
 ghost use Rattle.bench.specs.Coverage.{heldOf};
 ghost use Rattle.bench.specs.Longest.{markCount};
 ghost use Rattle.bench.specs.Tables.{Marked, ColumnMarked};
 ghost use Rattle.bench.specs.Files.{RowsReady, RunReady, RunsReady};
 ghost use Rattle.marking.specs.Flipped.{Keeps, Witnesses, Flips};
 use bench::Marks;
-use blocks::Block;
 use figures::RowNumber;
 use figures::RunCount;
 use figures::RunNumber;
 use lanes::Lane;
 use lengths::Requirement;
 use limits::Suite;
+use row_lines::Block;
 
 // The lanes in which each row reads the run: an occurrence does not in the lane of its number.
 fn keep_of(rows: &[[u16; 3]]) -> [u64; Requirement::ROWS]

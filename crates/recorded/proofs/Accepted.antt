@@ -14,7 +14,7 @@ use Rattle.laws.proofs.Passed.{run-passes}
 use Rattle.laws.proofs.Tabulated.{length-tabulate, getD-tabulate}
 use Rattle.encoder.specs.Log.{stepsIn, travel}
 use Rattle.signals.specs.Truth.{wordSound}
-use Rattle.truth.specs.Answers.{runChecked}
+use Rattle.run_checks.specs.RunChecks.{runChecked}
 use Rattle.layout.specs.Checks.{runFrom}
 use Rattle.log_words.specs.StepWord.{wordBy}
 use Rattle.log_words.proofs.WordBits.{word-sound}

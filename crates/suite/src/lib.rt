@@ -21,7 +21,7 @@ use lengths::Run;
 use lengths::Table;
 use limits::SuiteAnswer;
 use rows::RowFound;
-use truth::StepFound;
+use run_checks::StepFound;
 
 fn least(a: usize, b: usize) -> usize
     ensures { λ r. ⌜ r ≡ min a b ⌝ }
@@ -103,7 +103,7 @@ fn check_words_from(run: &[u32], conditions: ConditionCount, from: ByteOffset) -
     requires { ⌜ (from .0 ≤ 65535) × (length (now run) ≤ mostSteps) ⌝ }
     ensures { λ r. ⌜ checkSays r ≡ runFrom (conditions .0) (from .0) (now (run .entry)) ⌝ }
 {
-    if let StepFound::At(i) = truth::lowest_stray(run, conditions) {
+    if let StepFound::At(i) = run_checks::lowest_stray(run, conditions) {
         return Check::Refused(Refusal::StrayBit(StepPlace::File(ByteOffset(
             from.0 + Form::WORD_BYTES * i.0,
         ))));

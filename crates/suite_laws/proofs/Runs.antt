@@ -7,7 +7,7 @@ use lib.ListN.{length}
 use Rattle.lengths.specs.Lengths.{mostSteps}
 use Rattle.laws.proofs.Order.{Passes, both-pass, lowest-passes}
 use Rattle.laws.proofs.Passed.{Within, run-passes}
-use Rattle.truth.specs.Answers.{runChecked}
+use Rattle.run_checks.specs.RunChecks.{runChecked}
 use Rattle.layout.specs.Checks.{runFrom}
 
 module _ (conditions : ℕ) (run : List ℕ) where

@@ -1,18 +1,16 @@
--- What passed checks give: rows that the engine can take, and a run with a first step.
+-- What passed checks give: rows that the engine can take.
 -- Assumes nothing.
 use mathlib.Core.List.{List}
-use Prim.Native.Nat.{ℕ, _≤_, _<_}
+use Prim.Native.Nat.{ℕ, _≤_}
 use native.Mathlib.Omega.{arith}
 use lib.ListN.{length}
 use Rattle.limits.specs.Limits.{mostConditions}
 use Rattle.lengths.specs.Lengths.{mostTableRows}
-use Rattle.laws.proofs.Order.{Passes, both-pass, lowest-passes}
-use Rattle.laws.proofs.Passed.{run-passes}
+use Rattle.laws.proofs.Order.{Passes, lowest-passes}
 use Rattle.rows.specs.Rows.{Row}
 use Rattle.rows.specs.Checks.{rowsChecked}
 use Rattle.row_laws.proofs.Sound.{Sound, sound-lower, sound-inside}
 use Rattle.signals.specs.Column.{FitIn, Fit}
-use Rattle.truth.specs.Answers.{runChecked}
 
 -- 8 passed
 pub fit-in :
@@ -30,7 +28,3 @@ fit-in width conditions rows h c l =
 
 pub fit : (conditions : ℕ) (rows : List Row) → Passes (rowsChecked conditions rows) → conditions ≤ mostConditions → length rows ≤ mostTableRows → Fit rows
 fit conditions rows h c = fit-in mostTableRows conditions rows h (omega arith)
-
--- 10 passed
-pub some-step : (conditions : ℕ) (run : List ℕ) → Passes (runChecked conditions run) → 0 < length run
-some-step conditions run h = run-passes (length run) .0 (both-pass _ _ .0 h .0) .0

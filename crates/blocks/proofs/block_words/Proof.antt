@@ -7,7 +7,7 @@ use Prim.Native.Nat.{ℕ, _+_, _-_, _*_, _≤_, _<_}
 use lib.ListN.{length, getD, drop, length-set, length-take, length-drop}
 use Rattle.layout.specs.Layout.{wordSize}
 use Rattle.layout.specs.Checks.{wordsOf}
-use Rattle.blocks.specs.Blocks.{blockSteps}
+use Rattle.row_lines.specs.RowLines.{blockSteps}
 use Rattle.blocks.proofs.Stored.{stored-more}
 use Rattle.blocks.proofs.Stepped.{step-word}
 use Rattle.blocks.proofs.block_words.Statement.{statement}

@@ -7,7 +7,7 @@ use Prim.Native.Nat.{ℕ, _-_, _*_, _≤_, _<_}
 use native.Mathlib.Nat.{add-zero}
 use lib.ListN.{length, getD, length-set}
 use Rattle.lengths.specs.Lengths.{mostRequirementRows}
-use Rattle.blocks.specs.Blocks.{blockSteps, lineAt}
+use Rattle.row_lines.specs.RowLines.{blockSteps, lineAt}
 use Rattle.blocks.proofs.Stored.{stored-more}
 use Rattle.blocks.proofs.first_column.Statement.{statement}
 use Rattle.blocks.proofs.first_column.Tie as tie

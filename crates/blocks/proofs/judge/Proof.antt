@@ -8,7 +8,8 @@ use lib.Dec.{eqb}
 use lib.ListN.{length}
 use Rattle.layout.specs.Checks.{wordsOf}
 use Rattle.suite_laws.proofs.Words.{length-wordsOf}
-use Rattle.blocks.specs.Blocks.{blockWords, ColumnTrue}
+use Rattle.row_lines.specs.RowLines.{blockWords}
+use Rattle.blocks.specs.Blocks.{ColumnTrue}
 use Rattle.blocks.proofs.Stepped.{column-more}
 use Rattle.blocks.proofs.judge.Statement.{statement}
 use Rattle.blocks.proofs.judge.Tie as tie

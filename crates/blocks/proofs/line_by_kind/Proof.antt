@@ -5,7 +5,7 @@ use native.Mathlib.Omega.{arith}
 use mathlib.Core.Path.{sym, _∙_}
 use Prim.Native.Nat.{zero-le}
 use Rattle.rows.proofs.KindNumbers.{skip, unknown}
-use Rattle.blocks.proofs.Lined.{same-kind}
+use Rattle.row_lines.proofs.Lined.{same-kind}
 use Rattle.blocks.proofs.line_by_kind.Statement.{statement}
 use Rattle.blocks.proofs.line_by_kind.Tie as tie
 

@@ -5,7 +5,8 @@ use native.Mathlib.Omega.{arith}
 use mathlib.Core.Path.{_≡_}
 use Prim.Native.Nat.{_-_, _≤_}
 use lib.ListN.{length}
-use Rattle.blocks.specs.Blocks.{blockWords, BlockTrue}
+use Rattle.row_lines.specs.RowLines.{blockWords}
+use Rattle.blocks.specs.Blocks.{BlockTrue}
 use Rattle.blocks.proofs.Rowed.{row-more}
 use Rattle.blocks.proofs.put_lines.Statement.{statement}
 use Rattle.blocks.proofs.put_lines.Tie as tie

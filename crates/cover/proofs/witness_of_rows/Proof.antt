@@ -11,7 +11,7 @@ use Rattle.figures.specs.Refusals.Outcome.{gives}
 use Rattle.figures.proofs.Known.{said}
 use Rattle.rows.specs.Rows.{Row}
 use Rattle.rows.specs.Checks.{requirementRows, occurrences, occurrenceSays, occurrenceOf}
-use Rattle.truth.specs.Answers.{runChecked}
+use Rattle.run_checks.specs.RunChecks.{runChecked}
 use Rattle.cover.specs.Answers.{pairSays, rowsWitness}
 use Rattle.coverage.specs.Coverage.{witnessBytes}
 use Rattle.row_laws.proofs.Occurring.{occurrence-row}

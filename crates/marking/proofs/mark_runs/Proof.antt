@@ -16,7 +16,7 @@ use Rattle.rows.proofs.Named.{one-of}
 use Rattle.signals.specs.Truth.{holds}
 use Rattle.layout.specs.Layout.{form1}
 use Rattle.layout.specs.Checks.{wordsOf, runWordsIn}
-use Rattle.blocks.specs.Blocks.{blockWords}
+use Rattle.row_lines.specs.RowLines.{blockWords}
 use Rattle.bench.specs.Coverage.{size}
 use Rattle.bench.specs.Files.{RunReady}
 use Rattle.bench.specs.Tables.{marked, markOf, Marked, ColumnMarked}

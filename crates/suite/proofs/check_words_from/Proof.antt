@@ -9,7 +9,7 @@ use Rattle.figures.specs.declared.Refusal.{Refusal}
 use Rattle.figures.specs.declared.Refusal.the-variants.{StrayBit}
 use Rattle.figures.specs.Numbers.{refusedAt}
 use Rattle.figures.proofs.Known.{said}
-use Rattle.truth.specs.Answers.{foundStep}
+use Rattle.run_checks.specs.RunChecks.{foundStep}
 use Rattle.layout.specs.Layout.{wordSize}
 use Rattle.layout.specs.Checks.{offsetOf}
 use Rattle.suite_laws.proofs.Searched.{found-inside}

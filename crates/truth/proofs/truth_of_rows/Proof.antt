@@ -6,8 +6,9 @@ use Rattle.figures.specs.Refusals.{checkSays, _then_}
 use Rattle.figures.specs.Refusals.Outcome.{gives}
 use Rattle.figures.proofs.Known.{known, said}
 use Rattle.signals.specs.Truth.{holds}
-use Rattle.truth.specs.Answers.{runChecked}
-use Rattle.truth.proofs.Accepted.{fit, some-step}
+use Rattle.run_checks.specs.RunChecks.{runChecked}
+use Rattle.run_checks.proofs.Accepted.{some-step}
+use Rattle.truth.proofs.Accepted.{fit}
 use Rattle.truth.proofs.truth_of_rows.Statement.{statement}
 use Rattle.truth.proofs.truth_of_rows.Tie as tie
 

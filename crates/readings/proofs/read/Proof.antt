@@ -1,11 +1,10 @@
--- `columns::read` meets its contract: a flipped row reads its own value, every other row the word.
+-- `readings::read` meets its contract: a flipped row reads its own value, every other row the word.
 -- Assumes nothing.
 use borrow.Author.Needs.{needs}
 use mathlib.Core.Path.{_∙_}
-use Prim.Native.Nat.{_-_}
 use borrow.Author.Tests.{eq-eqb, ne-eqb}
-use Rattle.columns.proofs.read.Statement.{statement}
-use Rattle.columns.proofs.read.Tie as tie
+use Rattle.readings.proofs.read.Statement.{statement}
+use Rattle.readings.proofs.read.Tie as tie
 
 enum-known-reads : tie.Need-enum-known-reads
 enum-known-reads c = search needs

@@ -1,4 +1,4 @@
--- `blocks::put_line` meets its contract: from the block's last step to its first, each word that is stored is the row's cell in every lane.
+-- `row_lines::put_line` meets its contract: from the block's last step to its first, each word that is stored is the row's cell in every lane.
 -- Assumes nothing.
 use borrow.Author.Needs.{needs}
 use borrow.Author.Tests.{eq-eqb, ne-eqb}
@@ -9,10 +9,10 @@ use Prim.Native.Nat.{ℕ, suc, _-_, _≤_, _<_}
 use lib.Dec.{eqb}
 use Rattle.lanes.specs.Lanes.{laneCount, lane}
 use Rattle.lanes.proofs.Bitwise.{lane-none}
-use Rattle.blocks.specs.Blocks.{blockSteps, lineAt, aheadAt}
-use Rattle.blocks.proofs.Lined.{put, put-same, ahead-inside, Passed, none-passed, step-passed, all-passed}
-use Rattle.blocks.proofs.put_line.Statement.{statement}
-use Rattle.blocks.proofs.put_line.Tie as tie
+use Rattle.row_lines.specs.RowLines.{blockSteps, lineAt, aheadAt}
+use Rattle.row_lines.proofs.Lined.{put, put-same, ahead-inside, Passed, none-passed, step-passed, all-passed}
+use Rattle.row_lines.proofs.put_line.Statement.{statement}
+use Rattle.row_lines.proofs.put_line.Tie as tie
 
 abbrev Inv-loop : tie.InvT-loop
 Inv-loop kind line words steps lines₀ a-next₀ next₀ ends₀ t₀ lines a-next next ends t =

@@ -1,12 +1,11 @@
--- `columns::reads_at` meets its contract: past its end the sequence reads 0, which is false.
+-- `readings::reads_at` meets its contract: past its end the sequence reads 0, which is false.
 -- Assumes nothing.
 use borrow.Author.Needs.{needs}
 use native.Mathlib.Omega.{arith}
-use Prim.Native.Nat.{_-_}
 use lib.ListN.{List·getD-eq-default}
 use Rattle.signals.specs.Truth.{flip}
-use Rattle.columns.proofs.reads_at.Statement.{statement}
-use Rattle.columns.proofs.reads_at.Tie as tie
+use Rattle.readings.proofs.reads_at.Statement.{statement}
+use Rattle.readings.proofs.reads_at.Tie as tie
 
 enum-told : tie.Need-enum-told
 enum-told c = search needs

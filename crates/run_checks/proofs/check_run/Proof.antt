@@ -1,8 +1,8 @@
--- `truth::check_run` meets its contract: it gives the constructor's refusal, or refuses at the step that the search found.
+-- `run_checks::check_run` meets its contract: it gives the constructor's refusal, or refuses at the step that the search found.
 -- Assumes nothing.
 use borrow.Author.Needs.{needs}
 use mathlib.Core.Path.{_∙_}
-use Prim.Native.Nat.{ℕ, _-_}
+use Prim.Native.Nat.{ℕ}
 use Rattle.figures.specs.declared.StepPlace.the-variants.{Lone}
 use Rattle.figures.specs.declared.Refusal.{Refusal}
 use Rattle.figures.specs.declared.Refusal.the-variants.{StrayBit}
@@ -11,9 +11,9 @@ use Rattle.lengths.specs.Lengths.{runSays}
 use Rattle.figures.specs.Numbers.{refusedAt}
 use Rattle.figures.proofs.Known.{said}
 use Rattle.signals.specs.Truth.{lowestStray}
-use Rattle.truth.specs.Answers.{foundStep}
-use Rattle.truth.proofs.check_run.Statement.{statement}
-use Rattle.truth.proofs.check_run.Tie as tie
+use Rattle.run_checks.specs.RunChecks.{foundStep}
+use Rattle.run_checks.proofs.check_run.Statement.{statement}
+use Rattle.run_checks.proofs.check_run.Tie as tie
 
 abbrev stray : ℕ → Refusal
 stray i = StrayBit (Lone (record { 0 = i }))

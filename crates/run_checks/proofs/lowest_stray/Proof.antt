@@ -1,4 +1,4 @@
--- `truth::lowest_stray` meets its contract: every step passed is sound, so the first that is not is the lowest.
+-- `run_checks::lowest_stray` meets its contract: every step passed is sound, so the first that is not is the lowest.
 -- Assumes nothing.
 use borrow.Author.Needs.{needs}
 use native.Mathlib.Omega.{arith}
@@ -10,8 +10,8 @@ use borrow.Author.Tests.{not-true, not-false}
 use lib.ListN.{length, getD}
 use Rattle.laws.proofs.Lowest.{Holds, passed-none, passed-more, stopped-at, passed-all}
 use Rattle.signals.specs.Truth.{wordSound}
-use Rattle.truth.proofs.lowest_stray.Statement.{statement}
-use Rattle.truth.proofs.lowest_stray.Tie as tie
+use Rattle.run_checks.proofs.lowest_stray.Statement.{statement}
+use Rattle.run_checks.proofs.lowest_stray.Tie as tie
 
 abbrev sound : List ℕ → ℕ → ℕ → Bool
 sound run conditions i = wordSound conditions (getD run i 0)

@@ -15,8 +15,8 @@ use Rattle.rows.specs.Rows.{kindOf}
 use Rattle.signals.specs.Truth.{bit}
 use Rattle.signals.specs.Column.{cell}
 use Rattle.lanes.specs.Lanes.{laneCount, lane}
-use Rattle.blocks.specs.declared.Line.{Line}
-use Rattle.blocks.specs.Blocks.{blockSteps, blockWords, lineAt, aheadAt, CellAt, Lined}
+use Rattle.row_lines.specs.declared.Line.{Line}
+use Rattle.row_lines.specs.RowLines.{blockSteps, blockWords, lineAt, aheadAt, CellAt, Lined}
 
 -- a step of the block is not the one after it
 pub ahead-inside : (steps after : ℕ) (lines : List ℕ) (r t : ℕ) → t < steps → aheadAt steps after lines r t ≡ lineAt lines r t
