@@ -119,7 +119,7 @@ fn put_conds(
     let mut c = 0;
     while c < many {
         let answer = conditions::answer(ours, requirements, ConditionNumber(c), notes);
-        end = printing::put_cond_line(ConditionNumber(c), answer, out, ByteCount(end)).0;
+        end = cond_lines::put_cond_line(ConditionNumber(c), answer, out, ByteCount(end)).0;
         c += 1;
     }
     ByteCount(end)

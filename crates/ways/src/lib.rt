@@ -70,8 +70,8 @@ fn up_to(row: [u16; 3], s: u16, n: u16, stand: Stand, added: &mut [[u16; 3]]) ->
     let left = row[1] == at;
     let other = pick(left, row[2], row[1]);
     let z = n + done;
-    let new = rules::added_rows(row[0], left, s, at, other, trap, z);
-    let count = rules::added_count(row[0], left);
+    let new = added::added_rows(row[0], left, s, at, other, trap, z);
+    let count = added::added_count(row[0], left);
     let many = count as usize;
     let from = done as usize;
     copy_rows(&new[..many], &mut added[from..]);

@@ -1,4 +1,4 @@
--- `rules::added_count` meets its contract: each arm is the number of rows of its line.
+-- `added::added_count` meets its contract: each arm is the number of rows of its line.
 -- Assumes nothing.
 use borrow.Author.Needs.{needs}
 use mathlib.Core.Path.{_≡_, refl}
@@ -6,9 +6,9 @@ use Prim.Native.Nat.{zero-le}
 use native.Mathlib.Nat.{le-of-suc-le-suc}
 use Rattle.rows.specs.Rows.{kindOf}
 use Rattle.rows.proofs.KindNumbers.{in-range, unknown, skip}
 use Rattle.rules.specs.TrapRows.{addedCount, sideOf}
-use Rattle.rules.proofs.added_count.Statement.{statement}
-use Rattle.rules.proofs.added_count.Tie as tie
+use Rattle.added.proofs.added_count.Statement.{statement}
+use Rattle.added.proofs.added_count.Tie as tie
 
 returns : tie.Need-returns
 returns c = search needs

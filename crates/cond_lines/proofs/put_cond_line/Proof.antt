@@ -1,4 +1,4 @@
--- `printing::put_cond_line` meets its contract: the word, the number and the answer are put one after the other, and 15 bytes hold them.
+-- `cond_lines::put_cond_line` meets its contract: the word, the number and the answer are put one after the other, and 15 bytes hold them.
 -- Assumes nothing.
 use borrow.Author.Needs.{needs}
 use native.Mathlib.Omega.{arith}
@@ -9,8 +9,8 @@ use Rattle.lines.specs.Lines.{decimal}
 use Rattle.lines.proofs.Width.{width-2}
 use Rattle.bench.specs.Sheet.{condWord, answerWord}
 use Rattle.lines.proofs.Written.{room, field}
-use Rattle.printing.proofs.put_cond_line.Statement.{statement}
-use Rattle.printing.proofs.put_cond_line.Tie as tie
+use Rattle.cond_lines.proofs.put_cond_line.Statement.{statement}
+use Rattle.cond_lines.proofs.put_cond_line.Tie as tie
 
 after-word : (c : tie.After-put-word) → c .put-word .result .0 + 10 ≤ length (c .put-word .last .1 .1 .0)
 after-word c = room condWord 4 10 (omega arith) (c .before .before .before .before .pre .1) (c .put-word .ensures)

@@ -1,4 +1,4 @@
--- `rules::added_rows` meets its contract: each arm is its line of document 01's table.
+-- `added::added_rows` meets its contract: each arm is its line of document 01's table.
 -- Assumes nothing.
 use borrow.Author.Needs.{needs}
 use mathlib.Core.Path.{_≡_, refl}
@@ -9,9 +9,9 @@ use lib.ListN.{replicate}
 use Rattle.rows.specs.Rows.{Row, row, kindOf}
 use Rattle.codec.specs.Codec.{padded}
 use Rattle.rows.proofs.KindNumbers.{in-range, unknown, skip}
 use Rattle.rules.specs.TrapRows.{added, sideOf}
-use Rattle.rules.proofs.added_rows.Statement.{statement}
-use Rattle.rules.proofs.added_rows.Tie as tie
+use Rattle.added.proofs.added_rows.Statement.{statement}
+use Rattle.added.proofs.added_rows.Tie as tie
 
 abbrev none-added : List Row
 none-added = replicate 6 (row 0 0 0)

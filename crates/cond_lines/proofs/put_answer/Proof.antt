@@ -1,11 +1,11 @@
--- `printing::put_answer` meets its contract: each answer's word is put, and 7 bytes hold the longest.
+-- `cond_lines::put_answer` meets its contract: each answer's word is put, and 7 bytes hold the longest.
 -- Assumes nothing.
 use borrow.Author.Needs.{needs}
 use native.Mathlib.Omega.{arith}
 use Rattle.bench.specs.Sheet.{yesWord, noWord, unusedWord}
 use Rattle.lines.proofs.Written.{last}
-use Rattle.printing.proofs.put_answer.Statement.{statement}
-use Rattle.printing.proofs.put_answer.Tie as tie
+use Rattle.cond_lines.proofs.put_answer.Statement.{statement}
+use Rattle.cond_lines.proofs.put_answer.Tie as tie
 
 enum-told : tie.Need-enum-told
 enum-told c = search needs
