@@ -1,5 +1,6 @@
-//! The stored vectors of the program `answers`: FOLDER/vectors/list.txt and then document 01's own examples, as a batch in FOLDER/stdin, with
-//! what the reference says of them in FOLDER/stdout and, of the listed ones, in words in FOLDER/vectors/answers.txt.
+//! Stored cases for the programs `worked` and `answers`, a batch in FOLDER/stdin with what the reference says of it in FOLDER/stdout: the
+//! vectors that FOLDER/vectors/list.txt lists, and in words in FOLDER/vectors/answers.txt what comes out; without such a list document
+//! 01's own examples.
 
 use crate::batch::Batch;
 use crate::case::*;
@@ -78,19 +79,26 @@ fn in_words(answer: &Answer) -> String {
     }
 }
 
-pub fn store(folder: &str) -> Result<(), String> {
-    let (folder, vectors) = (Path::new(folder), Path::new(folder).join("vectors"));
-    let list = fs::read_to_string(vectors.join("list.txt")).map_err(|error| format!("vectors/list.txt: {error}"))?;
-    let (mut batch, mut words) = (Batch::new(None, 0, "store"), String::new());
+/// The listed vectors, and what comes out in words.
+fn listed(batch: &mut Batch, vectors: &Path, list: &str) -> Result<String, String> {
+    let mut words = String::new();
     for line in list.lines().filter(|line| !line.is_empty() && !line.starts_with('#')) {
         let fields: Vec<&str> = line.split('|').map(str::trim).collect();
-        let case = case(&vectors, &fields).map_err(|why| format!("{}: {why}", fields[0]))?;
+        let case = case(vectors, &fields).map_err(|why| format!("{}: {why}", fields[0]))?;
         words += &format!("{}, {}: {}\n", fields[0], fields[1], in_words(&case.answer()));
         batch.add(case);
     }
-    papers::examples(&mut batch);
+    Ok(words)
+}
+
+pub fn store(folder: &str) -> Result<(), String> {
+    let (folder, vectors) = (Path::new(folder), Path::new(folder).join("vectors"));
     let put = |path: &Path, bytes: &[u8]| fs::write(path, bytes).map_err(|error| error.to_string());
+    let mut batch = Batch::new(None, 0, "store");
+    match fs::read_to_string(vectors.join("list.txt")) {
+        Ok(list) => put(&vectors.join("answers.txt"), listed(&mut batch, &vectors, &list)?.as_bytes())?,
+        Err(_) => papers::examples(&mut batch),
+    }
     put(&folder.join("stdin"), &batch.input)?;
-    put(&folder.join("stdout"), &batch.output)?;
-    put(&vectors.join("answers.txt"), words.as_bytes())
+    put(&folder.join("stdout"), &batch.output)
 }

@@ -1,10 +1,10 @@
--- `answers::all_cases` is safe and ends: the measure is the number of turns that are left, and the slices keep their lengths.
+-- `answering::all_cases` is safe and ends: the measure is the number of turns that are left, and the slices keep their lengths.
 -- Assumes nothing.
 use borrow.Author.Needs.{needs}
 use mathlib.Core.Path.{_≡_}
 use lib.ListN.{length}
-use Rattle.answers.proofs.all_cases.Statement.{statement}
-use Rattle.answers.proofs.all_cases.Tie as tie
+use Rattle.answering.proofs.all_cases.Statement.{statement}
+use Rattle.answering.proofs.all_cases.Tie as tie
 
 abbrev Inv-loop : tie.InvT-loop
 Inv-loop body₀ space₀ turns₀ body space turns = (length body ≡ length body₀) × (length space ≡ length space₀)
