@@ -14,7 +14,11 @@ byte-at-requires-3 : tie.Need-byte-at-requires-3
 byte-at-requires-3 c κs = search needs
 
 returns : tie.Need-returns
-returns c = cc
+returns c =
+    let conditions = c .before .before .byte-at .ensures .0 in
+    let requirements = c .before .byte-at2 .ensures .0 in
+    let runs = c .byte-at3 .ensures .0 in
+    λ i. record { conditions = record { 0 = conditions i }; requirements = record { 0 = requirements i }; runs = record { 0 = runs i } }
 
 pub counts-of-spec : {M : Type 1} → statement M
 counts-of-spec =
