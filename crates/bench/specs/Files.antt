@@ -7,7 +7,7 @@ use Rattle.limits.specs.Limits.{mostConditions, mostRequirements, mostRuns}
 use Rattle.lengths.specs.Lengths.{mostRequirementRows, mostSteps}
 use Rattle.rows.specs.Checks.{IsRequirement}
 use Rattle.signals.specs.Column.{FitIn}
-use Rattle.layout.specs.Layout.{form1, conditionsIn, requirementsIn, runsIn, countIn}
+use Rattle.layout.specs.Layout.{form1, conditionsIn, requirementsIn, runsIn}
 use Rattle.layout.specs.Checks.{requirementRowsIn, runWordsIn}
 use Rattle.bench.specs.Coverage.{Bench}
 

@@ -1,21 +1,21 @@
 -- A block, one row more: where the lines of the lower rows are true and the row's own is written, that is true too.
 -- Assumes nothing.
-use mathlib.Core.Path.{_≡_, refl, sym, _∙_, ap, subst}
-use mathlib.Core.Bool.{Bool, true, false, _&&_, and-true, and-false}
+use mathlib.Core.Path.{_≡_, sym, _∙_, subst}
+use mathlib.Core.Bool.{Bool, true, _&&_, and-true, and-false}
 use mathlib.Core.List.{List}
 use Prim.Native.Nat.{ℕ, zero, suc, _+_, _-_, _<_, _≤_}
 use native.Mathlib.Omega.{arith}
 use native.Mathlib.Decide.{ℕ-discrete}
-use borrow.Author.Tests.{eqb-false, eq-eqb, ne-eqb}
+use borrow.Author.Tests.{eq-eqb, ne-eqb}
 use lib.Dec.{eqb}
 use lib.ListN.{length, getD}
 use Rattle.lengths.specs.Lengths.{mostRequirementRows}
-use Rattle.rows.specs.Rows.{Kind, Row, kindNumber, kind, first, second, rowAt, named}
+use Rattle.rows.specs.Rows.{Row, kindNumber, first, second, rowAt, named}
 use Rattle.signals.specs.Signals.{Signal}
 use Rattle.signals.specs.Truth.{Reading, truthOf}
-use Rattle.signals.specs.Column.{cell, FitIn}
-use Rattle.signal_laws.proofs.Model.{All-map, Lower, truth-model}
-use Rattle.signal_laws.proofs.Cells.{row-cell, cell-cong, cell-last}
+use Rattle.signals.specs.Column.{FitIn}
+use Rattle.signal_laws.proofs.Model.{All-map}
+use Rattle.signal_laws.proofs.Columns.{cell-true}
 use Rattle.lanes.specs.Lanes.{laneCount, lane}
 use Rattle.row_lines.specs.declared.Line.{Line}
 use Rattle.row_lines.specs.RowLines.{blockSteps, lineAt, aheadAt, Lined}
@@ -44,42 +44,6 @@ last-there i t steps n l fits = go (ℕ-discrete (suc t) steps)
         let m : i + steps ≡ suc (i + t) = omega arith in
         rw (eq-eqb (suc t) steps e, and-true (eqb (i + steps) n), m)
     go (no d) = rw (ne-eqb (suc t) steps d, and-false (eqb (i + steps) n), ne-eqb (suc (i + t)) n (λ e. omega arith))
-
--- a cell is the row's truth at a step if its values are true: those of the rows named, and those of the step ahead where there is one
-cell-true :
-    (rows : List Row) (reads : Reading) (n i r : ℕ) → Lower rows → i < n → r < length rows → (here ahead : ℕ → Bool) (next : Bool) →
-    ((j : ℕ) → j < r → here j ≡ truthOf rows reads n j i) →
-    (suc i < n → ((j : ℕ) → j < r → ahead j ≡ truthOf rows reads n j (suc i)) × (next ≡ truthOf rows reads n r (suc i))) →
-    cell (kind (rowAt rows r)) (reads r i) (here (first (rowAt rows r))) (here (second (rowAt rows r))) (ahead (first (rowAt rows r))) next (eqb (suc i) n)
-    ≡ truthOf rows reads n r i
-cell-true rows reads n i r lower l lr here ahead next is-here is-ahead =
-    go (eqb (suc i) n) refl ∙ sym (row-cell n i l truth (reads r) K a b (truth r) (truth-model rows reads n lower r lr))
-  where
-    truth : ℕ → Signal
-    truth = truthOf rows reads n
-
-    K : Kind
-    K = kind (rowAt rows r)
-
-    a : ℕ
-    a = first (rowAt rows r)
-
-    b : ℕ
-    b = second (rowAt rows r)
-
-    go :
-        (z : Bool) → eqb (suc i) n ≡ z →
-        cell K (reads r i) (here a) (here b) (ahead a) next z ≡ cell K (reads r i) (truth a i) (truth b i) (truth a (suc i)) (truth r (suc i)) z
-    go true e =
-        cell-last K (reads r i) _ _ _ _ _ _
-        ∙ cell-cong K (reads r i) (truth r (suc i)) true here (λ j. truth j i) (λ j. truth j (suc i)) (λ j. truth j (suc i)) a b
-        (All-map (named (rowAt rows r)) (λ j m. (is-here j m, refl)) (lower r lr))
-    go false e =
-        let d = eqb-false (suc i) n e in
-        let there = is-ahead (omega arith) in
-        ap (λ (x : Bool). cell K (reads r i) (here a) (here b) (ahead a) x false) (there .1)
-        ∙ cell-cong K (reads r i) (truth r (suc i)) false here (λ j. truth j i) ahead (λ j. truth j (suc i)) a b
-        (All-map (named (rowAt rows r)) (λ j m. (is-here j m, there .0 j m)) (lower r lr))
 
 module _
     (rows : List Row) (fit : FitIn mostRequirementRows rows) (keep flips after words : List ℕ) (steps : ℕ) (run : List ℕ) (i : ℕ)
@@ -120,8 +84,10 @@ module _
         wrote .cells t l k lk
         ∙ rw (last-there i t steps (length run) l fits, same t l)
         (cell-true rows reads (length run) (i + t) r (fit .lower) (omega arith) lr (λ j. lane (lineAt before j t) k)
-        (λ j. lane (aheadAt steps (getD after j 0) before j (suc t)) k) _ (λ j m. below j m t l k lk)
-        (λ h. (λ j m. ahead-true before j t (omega arith) l h (λ l′. below j m (suc t) l′ k lk), ahead-true lines r t lr l h later)))
+        (λ j. lane (aheadAt steps (getD after j 0) before j (suc t)) k) _
+        (All-map (named (rowAt rows r))
+        (λ j m. (below j m t l k lk, λ h. ahead-true before j t (omega arith) l h (λ l′. below j m (suc t) l′ k lk))) (fit .lower r lr))
+        (λ h. ahead-true lines r t lr l h later))
 
     line-true : (t : ℕ) → t < steps → lane (lineAt lines r t) k ≡ truth r (i + t)
     line-true t l = go (steps - suc t) t (omega arith)

@@ -18,7 +18,6 @@ use Rattle.run_checks.specs.RunChecks.{runChecked}
 use Rattle.cover.specs.declared.Witnessed.{Witnessed}
 use Rattle.cover.specs.declared.Witnessed.the-variants as witness
 use Rattle.coverage.specs.Coverage.{covered}
-use Rattle.coverage.specs.Coverage.{witnessBytes}
 
 -- what an answer says: covered with the bytes written, uncovered, or the refusal's number and place
 abbrev pub witnessSays : Witnessed → Outcome (Option ℕ)

@@ -3,7 +3,6 @@
 use mathlib.Core.List.{List, [], _∷_}
 use Prim.Native.Nat.{ℕ, suc}
 use lib.IntN.{ℤ, pos, negsuc}
-use lib.ListN.{length}
 use Rattle.figures.specs.Refusals.{Outcome}
 use Rattle.lines.specs.Lines.{decimal, line}
 use Rattle.lines.specs.Texts.{inOrder, pageBy, textOf}
