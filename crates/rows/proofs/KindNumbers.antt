@@ -1,7 +1,7 @@
--- Kind numbers: a range of two, and those past 12.
+-- Kind numbers: a range of two, those that a match leaves over, and those past 12.
 -- Assumes nothing.
 use mathlib.Core.Path.{_≡_, subst, sym}
-use Prim.Native.Nat.{ℕ, suc, _≤_}
+use Prim.Native.Nat.{ℕ, zero, suc, _+_, _≤_}
 use native.Mathlib.Omega.{arith}
 use native.Mathlib.Decide.{ℕ-discrete}
 use lib.ListN.{List·getD-eq-default}
@@ -20,6 +20,11 @@ in-range P least k p q low high = go (ℕ-discrete k least)
 pub unknown : (k : ℕ) → 13 ≤ k → kindOf k ≡ Unknown
 unknown k h = List·getD-eq-default kinds Unknown h
 
--- one kind number less that k can be
-pub skip : {m k : ℕ} → m ≤ k → (k ≡ m → ⊥) → suc m ≤ k
-skip h d = omega arith
+-- as a match has it for its last arm: k is none of the m numbers from least on, after whatever came before them
+abbrev pub NoneOf : Type 0 → ℕ → ℕ → ℕ → Type 0
+NoneOf before k least zero = before
+NoneOf before k least (suc m) = NoneOf before k least m × (k ≡ least + m → ⊥)
+
+pub past : (before : Type 0) (k least m : ℕ) → least ≤ k → NoneOf before k least m → least + m ≤ k
+past before k least zero h r = omega arith
+past before k least (suc m) h r = let s = past before k least m h (r .0) in let d = r .1 in omega arith

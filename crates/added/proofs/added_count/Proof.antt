@@ -5,7 +5,7 @@ use mathlib.Core.Path.{_≡_, refl}
 use Prim.Native.Nat.{zero-le}
 use native.Mathlib.Nat.{le-of-suc-le-suc}
 use Rattle.rows.specs.Rows.{kindOf}
-use Rattle.rows.proofs.KindNumbers.{in-range, unknown, skip}
+use Rattle.rows.proofs.KindNumbers.{in-range, unknown, past}
 use Rattle.rules.specs.TrapRows.{addedCount, sideOf}
 use Rattle.added.proofs.added_count.Statement.{statement}
 use Rattle.added.proofs.added_count.Tie as tie
@@ -47,12 +47,11 @@ returns-12 : tie.Need-returns-12
 returns-12 c = in-range (λ k. 0 ≡ addedCount (kindOf k) (sideOf (c .before .before .before .args .left))) 2 (c .before .before .before .args .kind) refl refl (c .before .if4 .left) (le-of-suc-le-suc (c .if5 .taken))
 
 returns-13 : tie.Need-returns-13
-returns-13 c = in-range (λ k. 1 ≡ addedCount (kindOf k) (sideOf (c .before .before .before .before .args .left))) 6 (c .before .before .before .before .args .kind) refl refl (let r = c .before .before .before .match .rest in skip (skip (c .before .if5 .left) (r .0 .0 .0 .0 .0 .0 .1)) (r .0 .0 .0 .0 .0 .1)) (le-of-suc-le-suc (c .if6 .taken))
+returns-13 c = in-range (λ k. 1 ≡ addedCount (kindOf k) (sideOf (c .before .before .before .before .args .left))) 6 (c .before .before .before .before .args .kind) refl refl (past _ (c .before .before .before .before .args .kind) 4 2 (c .before .if5 .left) (c .before .before .before .match .rest .0 .0 .0 .0 .0)) (le-of-suc-le-suc (c .if6 .taken))
 
 returns-14 : tie.Need-returns-14
 returns-14 c =
-    let r = c .before .before .before .match .rest in
-    rw (unknown (c .before .before .before .before .args .kind) (skip (skip (skip (skip (skip (c .if6 .left) (r .0 .0 .0 .0 .1)) (r .0 .0 .0 .1)) (r .0 .0 .1)) (r .0 .1)) (r .1)))
+    rw (unknown (c .before .before .before .before .args .kind) (past _ (c .before .before .before .before .args .kind) 8 5 (c .if6 .left) (c .before .before .before .match .rest)))
 
 pub added-count-spec : {M : Type 1} → statement M
 added-count-spec =

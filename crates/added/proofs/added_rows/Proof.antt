@@ -8,7 +8,7 @@ use native.Mathlib.Nat.{le-of-suc-le-suc}
 use lib.ListN.{replicate}
 use Rattle.rows.specs.Rows.{Row, row, kindOf}
 use Rattle.codec.specs.Codec.{padded}
-use Rattle.rows.proofs.KindNumbers.{in-range, unknown, skip}
+use Rattle.rows.proofs.KindNumbers.{in-range, unknown, past}
 use Rattle.rules.specs.TrapRows.{added, sideOf}
 use Rattle.added.proofs.added_rows.Statement.{statement}
 use Rattle.added.proofs.added_rows.Tie as tie
@@ -68,12 +68,11 @@ returns-10 : tie.Need-returns-10
 returns-10 c =
     in-range
     (λ k. row 6 (c .before .before .before .before .args .t) 0 ∷ replicate 5 (row 0 0 0) ≡ padded 6 (added (kindOf k) (sideOf (c .before .before .before .before .args .left)) (c .before .before .before .before .args .s) (c .before .before .before .before .args .c) (c .before .before .before .before .args .o) (c .before .before .before .before .args .t) (c .before .before .before .before .args .z)))
-    6 (c .before .before .before .before .args .kind) refl refl (let r = c .before .before .before .match .rest in skip (skip (c .before .if2 .left) (r .0 .0 .0 .0 .0 .0 .1)) (r .0 .0 .0 .0 .0 .1)) (le-of-suc-le-suc (c .if3 .taken))
+    6 (c .before .before .before .before .args .kind) refl refl (past _ (c .before .before .before .before .args .kind) 4 2 (c .before .if2 .left) (c .before .before .before .match .rest .0 .0 .0 .0 .0)) (le-of-suc-le-suc (c .if3 .taken))
 
 returns-11 : tie.Need-returns-11
 returns-11 c =
-    let r = c .before .before .before .match .rest in
-    rw (unknown (c .before .before .before .before .args .kind) (skip (skip (skip (skip (skip (c .if3 .left) (r .0 .0 .0 .0 .1)) (r .0 .0 .0 .1)) (r .0 .0 .1)) (r .0 .1)) (r .1)))
+    rw (unknown (c .before .before .before .before .args .kind) (past _ (c .before .before .before .before .args .kind) 8 5 (c .if3 .left) (c .before .before .before .match .rest)))
 
 pub added-rows-spec : {M : Type 1} → statement M
 added-rows-spec =

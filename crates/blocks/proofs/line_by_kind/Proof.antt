@@ -4,7 +4,7 @@ use borrow.Author.Needs.{needs}
 use native.Mathlib.Omega.{arith}
 use mathlib.Core.Path.{sym, _∙_}
 use Prim.Native.Nat.{zero-le}
-use Rattle.rows.proofs.KindNumbers.{skip, unknown}
+use Rattle.rows.proofs.KindNumbers.{unknown, past}
 use Rattle.row_lines.proofs.Lined.{same-kind}
 use Rattle.blocks.proofs.line_by_kind.Statement.{statement}
 use Rattle.blocks.proofs.line_by_kind.Tie as tie
@@ -93,9 +93,8 @@ returns-13 c = rw (c .before .before .match .keys13) (c .put-line13 .ensures)
 returns-14 : tie.Need-returns-14
 returns-14 c =
     let r = c .before .before .match .rest in
-    let past = unknown (c .before .before .before .args .kind)
-    (skip (skip (skip (skip (skip (skip (skip (skip (skip (skip (skip (skip (skip zero-le (r .0 .0 .0 .0 .0 .0 .0 .0 .0 .0 .0 .0 .1)) (r .0 .0 .0 .0 .0 .0 .0 .0 .0 .0 .0 .1)) (r .0 .0 .0 .0 .0 .0 .0 .0 .0 .0 .1)) (r .0 .0 .0 .0 .0 .0 .0 .0 .0 .1)) (r .0 .0 .0 .0 .0 .0 .0 .0 .1)) (r .0 .0 .0 .0 .0 .0 .0 .1)) (r .0 .0 .0 .0 .0 .0 .1)) (r .0 .0 .0 .0 .0 .1)) (r .0 .0 .0 .0 .1)) (r .0 .0 .0 .1)) (r .0 .0 .1)) (r .0 .1)) (r .1)) in
-    same-kind (unknown 13 (omega arith) ∙ sym past) (c .put-line14 .ensures)
+    let none = unknown (c .before .before .before .args .kind) (past _ (c .before .before .before .args .kind) 0 13 zero-le r) in
+    same-kind (unknown 13 (omega arith) ∙ sym none) (c .put-line14 .ensures)
 
 pub line-by-kind-spec : {M : Type 1} → statement M
 line-by-kind-spec =

@@ -1,7 +1,7 @@
 -- `lanes::lane_cell` meets its contract: each arm is its kind's line in every lane, and past 12 there is no kind.
 -- Assumes nothing.
 use Prim.Native.Nat.{zero-le}
-use Rattle.rows.proofs.KindNumbers.{skip, unknown}
+use Rattle.rows.proofs.KindNumbers.{unknown, past}
 use Rattle.lanes.proofs.Bitwise.{lane-and, lane-or, lane-not, lane-none, lane-all}
 use Rattle.lanes.proofs.lane_cell.Statement.{statement}
 use Rattle.lanes.proofs.lane_cell.Tie as tie
@@ -48,8 +48,7 @@ returns-13 c k l = rw (c .match .keys13) (simp (lane-or, lane-and))
 returns-14 : tie.Need-returns-14
 returns-14 c k l =
     let r = c .match .rest in
-    rw (unknown (c .before .args .kind)
-    (skip (skip (skip (skip (skip (skip (skip (skip (skip (skip (skip (skip (skip zero-le (r .0 .0 .0 .0 .0 .0 .0 .0 .0 .0 .0 .0 .1)) (r .0 .0 .0 .0 .0 .0 .0 .0 .0 .0 .0 .1)) (r .0 .0 .0 .0 .0 .0 .0 .0 .0 .0 .1)) (r .0 .0 .0 .0 .0 .0 .0 .0 .0 .1)) (r .0 .0 .0 .0 .0 .0 .0 .0 .1)) (r .0 .0 .0 .0 .0 .0 .0 .1)) (r .0 .0 .0 .0 .0 .0 .1)) (r .0 .0 .0 .0 .0 .1)) (r .0 .0 .0 .0 .1)) (r .0 .0 .0 .1)) (r .0 .0 .1)) (r .0 .1)) (r .1)))
+    rw (unknown (c .before .args .kind) (past _ (c .before .args .kind) 0 13 zero-le r))
     (lane-none k)
 
 pub lane-cell-spec : {M : Type 1} → statement M

@@ -2,7 +2,7 @@
 -- Assumes nothing.
 use borrow.Author.Needs.{needs}
 use Prim.Native.Nat.{_-_, zero-le}
-use Rattle.rows.proofs.KindNumbers.{skip, unknown}
+use Rattle.rows.proofs.KindNumbers.{unknown, past}
 use Rattle.signals.proofs.cell.Statement.{statement}
 use Rattle.signals.proofs.cell.Tie as tie
 
@@ -48,8 +48,7 @@ returns-13 c = rw (c .match .keys13)
 returns-14 : tie.Need-returns-14
 returns-14 c =
     let r = c .match .rest in
-    rw (unknown (c .before .args .kind)
-    (skip (skip (skip (skip (skip (skip (skip (skip (skip (skip (skip (skip (skip zero-le (r .0 .0 .0 .0 .0 .0 .0 .0 .0 .0 .0 .0 .1)) (r .0 .0 .0 .0 .0 .0 .0 .0 .0 .0 .0 .1)) (r .0 .0 .0 .0 .0 .0 .0 .0 .0 .0 .1)) (r .0 .0 .0 .0 .0 .0 .0 .0 .0 .1)) (r .0 .0 .0 .0 .0 .0 .0 .0 .1)) (r .0 .0 .0 .0 .0 .0 .0 .1)) (r .0 .0 .0 .0 .0 .0 .1)) (r .0 .0 .0 .0 .0 .1)) (r .0 .0 .0 .0 .1)) (r .0 .0 .0 .1)) (r .0 .0 .1)) (r .0 .1)) (r .1)))
+    rw (unknown (c .before .args .kind) (past _ (c .before .args .kind) 0 13 zero-le r))
 
 pub cell-spec : {M : Type 1} → statement M
 cell-spec =
