@@ -8,7 +8,8 @@ Made by `bench/run`; edit that and not this page. It builds all, takes some minu
 and, for the counting, {counter}.
 
 What is measured: the x86-64 instructions that a program takes from its start to its end, reading, checks and printing included. They
-are counted by {counter}, come out the same each time, and are not time. `our sheet` is the proved program `sheet`. The peers are
+are counted by {counter}, come out the same each time (in another folder a few more or fewer, since the program's path is read too), and
+are not time. `our sheet` is the proved program `sheet`. The peers are
 hand-written C for the same job (bench/peers; suite on standard input, whole sheet on standard output, all refusals), built by
 `{compiler}` with `{flags}`:
 
