@@ -57,15 +57,11 @@ fn number_at(bytes: &[u8], at: usize) -> usize
     ensures { λ r. ⌜ r < 4294967296 ⌝ }
 {
     wide(bytes[at])
-        + 256 * wide(bytes[at + 1])
-        + 65536 * wide(bytes[at + 2])
-        + 16777216 * wide(bytes[at + 3])
+        + 256 * (wide(bytes[at + 1]) + 256 * (wide(bytes[at + 2]) + 256 * wide(bytes[at + 3])))
 }
 
 // The head of a case.
-pub fn case_of(head: &[u8]) -> Case
-    requires { ⌜ length (now head) ≡ 28 ⌝ }
-{
+pub fn case_of(head: &[u8; Case::HEAD]) -> Case {
     Case {
         operation: number_at(head, 0),
         pattern: (number_at(head, 4) % 256) as u8,
@@ -118,8 +114,8 @@ fn byte_of(word: u32, which: usize) -> u8 {
     match which {
         0 => (word % 256) as u8,
         1 => (word / 256 % 256) as u8,
-        2 => (word / 65536 % 256) as u8,
-        _ => (word / 16777216 % 256) as u8,
+        2 => (word / 256 / 256 % 256) as u8,
+        _ => (word / 256 / 256 / 256 % 256) as u8,
     }
 }
 
@@ -148,8 +144,8 @@ fn put_number(n: usize, out: &mut [u8; Case::ANSWER], at: usize)
 {
     out[at] = (n % 256) as u8;
     out[at + 1] = (n / 256 % 256) as u8;
-    out[at + 2] = (n / 65536 % 256) as u8;
-    out[at + 3] = (n / 16777216 % 256) as u8;
+    out[at + 2] = (n / 256 / 256 % 256) as u8;
+    out[at + 3] = (n / 256 / 256 / 256 % 256) as u8;
 }
 
 fn write_out(out: &[u8; Case::ANSWER]) {
