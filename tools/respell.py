@@ -94,7 +94,7 @@ def foreign(text, crates):
         parts = use_parts(line)
         if parts:
             path, names, _ = parts
-            if not own(path, crates) or re.search(r"\.(declared|Given|Goals|Tie)\b", path):
+            if not own(path, crates) or re.search(r"\.declared\b|[a-z]\w*\.(Given|Goals|Tie)$", path.split(".proofs.")[-1]):
                 taken.update(n.split(" as ")[0] for n in names)
     return taken
 

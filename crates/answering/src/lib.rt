@@ -1,10 +1,10 @@
 // Cases on standard input, each an operation and its inputs, answered on standard output: what the operation answers, and every lent byte
 // after it (docs/OUTSIDE.md has the layout of both). The programs `worked`, on stored vectors, and `answers` are this.
+#![tactic(auto)]
 ghost use Rattle.std.specs.Prelude.{◌≡◌, length};
 
 use cases::Case;
 use figures::{OccurrenceNumber, RequirementNumber};
-use libc::{STDIN_FILENO, STDOUT_FILENO};
 use wire::{Answer, AnswerKind};
 
 // 70,000 zeros, for a case's bytes: more than a file may have.
@@ -97,13 +97,13 @@ fn run_case(case: Case, bytes: &[u8], lent: &mut [u8]) -> bool {
     cases::fill(lent, case.pattern);
     let first = cases::within(case.first, bytes);
     answer(case, &bytes[..first], &bytes[first..], lent);
-    io::write_all(STDOUT_FILENO, lent)
+    io::write_all(Case::OUTPUT, lent)
 }
 
 // A case whose head is read: its bytes follow. Lengths beyond the space are cut to it.
 fn take_case(case: Case, body: &mut [u8], space: &mut [u8]) -> bool {
     let asked = cases::within(case.bytes, body);
-    io::read_full(STDIN_FILENO, &mut body[..asked]);
+    io::read_full(Case::INPUT, &mut body[..asked]);
     let end = cases::within(case.bytes, body);
     let room = cases::within(case.room, space);
     run_case(case, &body[..end], &mut space[..room])
@@ -111,7 +111,7 @@ fn take_case(case: Case, body: &mut [u8], space: &mut [u8]) -> bool {
 
 fn next_case(body: &mut [u8], space: &mut [u8]) -> bool {
     let mut head = [0u8; Case::HEAD];
-    if io::read_full(STDIN_FILENO, &mut head) < Case::HEAD {
+    if io::read_full(Case::INPUT, &mut head) < Case::HEAD {
         return false;
     }
     take_case(cases::case_of(&head), body, space)

@@ -56,7 +56,7 @@ size_is_zero_iff m f = (
 )
   where
     without : (l : List ℕ) → length l ≡ 0 → {k : ℕ} → Memᴰ k l → ⊥
-    without [] e i = Memᴰ.not_nil i
+    without [] e i = Memᴰ.not-nil i
     without (x ∷ l) e i = omega arith
 
     empty : (l : List ℕ) → ((k : ℕ) → Memᴰ k l → ⊥) → length l ≡ 0

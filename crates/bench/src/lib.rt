@@ -1,9 +1,10 @@
 // What the list and the sheet count and say: definitions, and laws about them.
+#![tactic(auto)]
 use lengths::Requirement;
 use limits::Suite;
 
 // The engine's table of one requirement: a mark for each of its rows and each run.
-#[derive(Drop)]
+#[derive(Clone, Copy)]
 pub struct Marks(pub usize);
 
 impl Marks {
@@ -11,7 +12,7 @@ impl Marks {
 }
 
 // The engine's table of a suite: a note for each requirement and each of its rows.
-#[derive(Drop)]
+#[derive(Clone, Copy)]
 pub struct Notes(pub usize);
 
 impl Notes {
@@ -19,7 +20,7 @@ impl Notes {
 }
 
 // What the sheet says of a condition.
-#[derive(Drop)]
+#[derive(Clone, Copy)]
 pub enum ConditionAnswer {
     Yes,
     No,

@@ -1,15 +1,15 @@
 // The bytes of a case and of an answer, for a program that reads cases and writes what the operations answer (docs/OUTSIDE.md has the
 // layout of both): heads of four-byte numbers, words and limits.
+#![tactic(auto)]
 ghost use Rattle.std.specs.Prelude.{◌≡◌, ◌+◌, ◌≤◌, ◌<◌, length, take};
 ghost use Rattle.io.specs.Counts.{IsPrefixLen};
 
 use figures::ConditionCount;
-use libc::STDOUT_FILENO;
 
 // A case's head: which operation, the byte that fills the lent bytes before it, how many bytes follow and how many of them are the
 // table, file or log (the others are the run or the limits), how many conditions, which occurrence or requirement, and how many bytes
 // are lent.
-#[derive(Drop)]
+#[derive(Clone, Copy)]
 pub struct Case {
     pub operation: usize,
     pub pattern: u8,
@@ -30,6 +30,11 @@ impl Case {
     pub const WORDS: usize = 4200;
 
     pub const LIMITS: usize = 64;
+
+    // The numbers of the files that a program is started with: standard input and standard output.
+    pub const INPUT: i32 = 0;
+
+    pub const OUTPUT: i32 = 1;
 }
 
 fn least(a: usize, b: usize) -> usize
@@ -149,7 +154,7 @@ fn put_number(n: usize, out: &mut [u8; Case::ANSWER], at: usize)
 }
 
 fn write_out(out: &[u8; Case::ANSWER]) {
-    io::write_all(STDOUT_FILENO, out);
+    io::write_all(Case::OUTPUT, out);
 }
 
 // Writes an answer's head: what it is, the refusal's number or how much was written, what the place is, the place.

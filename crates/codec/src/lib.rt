@@ -1,4 +1,5 @@
 // Formula rows decoded from bytes, and encoded back.
+#![tactic(auto)]
 ghost use Rattle.std.specs.Prelude.{◌≡◌, length, drop, ◌++◌, ◌≤◌, ◌<◌, min};
 ghost use Rattle.lengths.specs.Lengths.{most_table_rows};
 ghost use Rattle.codec.specs.Codec.{rows_of, padded, row_of, bytes_of_row, encoded_says, encode_of, encoded};
@@ -7,7 +8,7 @@ use figures::{ByteCount, Refusal};
 use lengths::Table;
 
 // What writing rows into lent bytes answers.
-#[derive(Drop)]
+#[derive(Clone, Copy)]
 pub enum Encoded {
     Written(ByteCount),
     Refused(Refusal),

@@ -19,7 +19,7 @@ use Rattle.coverage.specs.Coverage.{flip, witness_bit}
 use Rattle.cover.specs.Answers.{witness_of, lent_after}
 use Rattle.coverage.specs.Coverage.{witness_bytes}
 use Rattle.flips.proofs.Decide.{covered_means}
-use Rattle.cover.proofs.Given.{witness-falsifies, given-covered}
+use Rattle.cover.proofs.Given.{witness_falsifies, given_covered}
 use Rattle.cover.proofs.Lent.{Answered}
 
 module _ (requirement run : List ℕ) (conditions occurrence : ℕ) (out : List ℕ) where
@@ -41,11 +41,11 @@ module _ (requirement run : List ℕ) (conditions occurrence : ℕ) (out : List 
 
   pub falsifies : (n : ℕ) → says ≡ gives (some n) → verdict (take n (lent_after says bytes out)) ≡ false
   falsifies n e =
-      let (taken, (run_taken, (there, (covers, (room, steps))))) = (given-covered requirement run conditions occurrence (length out) n).0 e in
+      let (taken, (run_taken, (there, (covers, (room, steps))))) = (given_covered requirement run conditions occurrence (length out) n).0 e in
       let at : (p < length rows) × So (condition_at rows p) = occurrence_condition rows occurrence (sym (occurrence_there rows occurrence there)) in
       ap (λ o. verdict (take n (lent_after o bytes out))) e
       ∙ ap verdict (take_at bytes (drop n out) n (length-replicate (length run) (cond (witness_bit rows p) 1 0) ∙ steps))
-      ∙ witness-falsifies rows (is_requirement rows conditions taken.1.0 taken.1.1) p at.0 at.1 (length run) run_taken.0.0
+      ∙ witness_falsifies rows (is_requirement rows conditions taken.1.0 taken.1.1) p at.0 at.1 (length run) run_taken.0.0
       (reads_of rows run) ((covered_means rows (reads_of rows run) (length run) p).1 covers)
 
   -- so the third promise of `witness` follows from the other two

@@ -19,7 +19,7 @@ use Rattle.figures.specs.Refusals.{Outcome, printed_place, ◌then◌}
 use Rattle.figures.specs.Refusals.Outcome.{refused, gives}
 use Rattle.lengths.specs.Lengths.{most_steps}
 use Rattle.figures.specs.Numbers.{refused_at}
-use Rattle.laws.proofs.Given.{not-both, Beyond, refused-when, over-means, given-10 as run_refused}
+use Rattle.laws.proofs.Given.{not_both, Beyond, refused_when, over_means, given_10 as run_refused}
 use Rattle.laws.proofs.Lowest.{Holds, Lowest}
 use Rattle.laws.proofs.Order.{Passes, Numbered, Never, instead, numbered_never, never_by, never_then, skip, skip_by, skip_never, stop, stop_by, passes, passes_by, both_pass, then_assoc, test_numbered, test_gives, lowest_numbered, lowest_passes, lowest_refused}
 use Rattle.laws.proofs.Passed.{Within, run_numbered, run_passes}
@@ -83,12 +83,12 @@ module _ (rows : List Row) (run : List ℕ) (room p : ℕ) where
 
   never_pair : (n : ℕ) → n < 14 → Never n (pair_says rows run room p)
   never_pair n l q e =
-      numbered_never n _ (test_numbered (some (length run)) ShortOutput enough) (λ e. omega arith) q ((asked (λ g. not-both g refl)).0 e).1
+      numbered_never n _ (test_numbered (some (length run)) ShortOutput enough) (λ e. omega arith) q ((asked (λ g. not_both g refl)).0 e).1
 
   pair_14 : (pair_says rows run room p ≡ refused 14 place.None) ↔ (IsCovered × (room < length run))
   pair_14 =
-      Iff.trans (asked (λ g. not-both g refl))
-      (Iff.and Iff.rfl (Iff.trans (refused-when (some (length run)) ShortOutput enough) (over-means (length run) room)))
+      Iff.trans (asked (λ g. not_both g refl))
+      (Iff.and Iff.rfl (Iff.trans (refused_when (some (length run)) ShortOutput enough) (over_means (length run) room)))
 
   pair_covered_lem : (n : ℕ) → (pair_says rows run room p ≡ gives (some n)) ↔ (IsCovered × ((length run ≤ room) × (length run ≡ n)))
   pair_covered_lem n =
@@ -160,8 +160,8 @@ module _ (requirement run : List ℕ) (conditions occurrence room : ℕ) where
       Iff.trans along
       (Iff.trans (skip_never after n _ p (never_taken conditions requirement n l)) (Iff.and (taken_passes conditions requirement) Iff.rfl))
 
-  pub given-10 : (answer ≡ refused 10 place.None) ↔ (Taken conditions requirement × Beyond 1 most_steps (length run))
-  given-10 =
+  pub given_10 : (answer ≡ refused 10 place.None) ↔ (Taken conditions requirement × Beyond 1 most_steps (length run))
+  given_10 =
       Iff.trans (past_taken 10 _ (omega arith))
       (Iff.and Iff.rfl
       (Iff.trans (stop after_run 10 _ _ (never_after_run 10 (omega arith)))

@@ -1,4 +1,5 @@
 // The operation `witness`.
+#![tactic(auto)]
 ghost use Rattle.std.specs.Prelude.{◌≡◌, ◌≤◌, ◌<◌, length, get_or};
 ghost use Rattle.limits.specs.Limits.{most_conditions};
 ghost use Rattle.lengths.specs.Lengths.{most_requirement_rows};
@@ -14,7 +15,7 @@ use lengths::Table;
 use rows::OccurrenceAnswer;
 
 // What the operation `witness` answers.
-#[derive(Drop)]
+#[derive(Clone, Copy)]
 pub enum Witnessed {
     Covered(ByteCount),
     Uncovered,

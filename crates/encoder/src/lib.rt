@@ -1,4 +1,5 @@
 // An encoder log: counts, differences and travel, all in encoder counts, none of it in millimetres or inches.
+#![tactic(auto)]
 ghost use Rattle.std.specs.Prelude.{◌≡◌, suc, ◌*◌, ◌<◌, ◌≤◌, ◌+ℤ◌, unsigned_abs};
 ghost use Rattle.lengths.specs.Lengths.{most_steps};
 ghost use Rattle.encoder.specs.Log.{count_in, difference_in, half_turn, signed, travel, wrapped};
@@ -6,15 +7,15 @@ ghost use Rattle.encoder.specs.Log.{count_in, difference_in, half_turn, signed, 
 use figures::StepNumber;
 
 // One reading of the encoder, in encoder counts; it wraps after 65,535.
-#[derive(Drop)]
+#[derive(Clone, Copy)]
 pub struct EncoderCount(pub u16);
 
 // How many encoder counts the encoder went on from one step to the next, wrapped: 65,535 is one count back.
-#[derive(Drop)]
+#[derive(Clone, Copy)]
 pub struct Difference(pub u16);
 
 // How many encoder counts the lift has gone since step 0, negative for back.
-#[derive(Drop)]
+#[derive(Clone, Copy)]
 pub struct Travel(pub i32);
 
 impl EncoderCount {

@@ -1,74 +1,75 @@
 // What every number counts, the places, and the refusals. A number crosses an interface only in one of these types; those marked
 // `#[repr(C)]` cross the C interface too (room `exports`).
+#![tactic(auto)]
 ghost use Rattle.std.specs.Prelude.{◌≡◌};
 ghost use Rattle.figures.specs.Refusals.{number_of, place_of, row_place_of, step_place_of, printed_place};
 
 // Numbers: which one is meant. All count from 0.
-#[derive(Drop)]
+#[derive(Clone, Copy)]
 pub struct ConditionNumber(pub usize);
 
 #[repr(C)]
-#[derive(Drop)]
+#[derive(Clone, Copy)]
 pub struct OccurrenceNumber(pub usize);
 
-#[derive(Drop)]
+#[derive(Clone, Copy)]
 pub struct StepNumber(pub usize);
 
-#[derive(Drop)]
+#[derive(Clone, Copy)]
 pub struct RowNumber(pub usize);
 
 #[repr(C)]
-#[derive(Drop)]
+#[derive(Clone, Copy)]
 pub struct RequirementNumber(pub usize);
 
-#[derive(Drop)]
+#[derive(Clone, Copy)]
 pub struct RunNumber(pub usize);
 
 // Bytes before the one meant, from byte 0 of a suite file.
-#[derive(Drop)]
+#[derive(Clone, Copy)]
 pub struct ByteOffset(pub usize);
 
 // Counts: how many there are.
 #[repr(C)]
-#[derive(Drop)]
+#[derive(Clone, Copy)]
 pub struct ConditionCount(pub usize);
 
-#[derive(Drop)]
+#[derive(Clone, Copy)]
 pub struct OccurrenceCount(pub usize);
 
 #[repr(C)]
-#[derive(Drop)]
+#[derive(Clone, Copy)]
 pub struct StepCount(pub usize);
 
-#[derive(Drop)]
+#[derive(Clone, Copy)]
 pub struct RowCount(pub usize);
 
-#[derive(Drop)]
+#[derive(Clone, Copy)]
 pub struct RequirementCount(pub usize);
 
-#[derive(Drop)]
+#[derive(Clone, Copy)]
 pub struct RunCount(pub usize);
 
 #[repr(C)]
-#[derive(Drop)]
+#[derive(Clone, Copy)]
 pub struct ByteCount(pub usize);
 
 // Pairs of an occurrence and a run.
-#[derive(Drop)]
+#[derive(Clone, Copy)]
 pub struct PairCount(pub usize);
 
 // Which line of document 01's table of refusals is meant, from 1.
 #[repr(C)]
-#[derive(Drop)]
+#[derive(Clone, Copy)]
 pub struct RefusalNumber(pub usize);
 
 // A place as a program prints it: the number of the byte, row or step, and 0 for none.
 #[repr(C)]
-#[derive(Drop)]
+#[derive(Clone, Copy)]
 pub struct PrintedPlace(pub usize);
 
 // Where a refusal points.
-#[derive(Drop)]
+#[derive(Clone, Copy)]
 pub enum Place {
     None,
     Byte(ByteOffset),
@@ -77,21 +78,21 @@ pub enum Place {
 }
 
 // A row of a lone table by its number, a row of a file by the offset where it starts.
-#[derive(Drop)]
+#[derive(Clone, Copy)]
 pub enum RowPlace {
     Lone(RowNumber),
     File(ByteOffset),
 }
 
 // A step of a lone run by its number, a word of a file by the offset where it starts.
-#[derive(Drop)]
+#[derive(Clone, Copy)]
 pub enum StepPlace {
     Lone(StepNumber),
     File(ByteOffset),
 }
 
 // The refusals 1 to 14 of document 01, in its order.
-#[derive(Drop)]
+#[derive(Clone, Copy)]
 pub enum Refusal {
     FileBytes,
     Form,
@@ -110,14 +111,14 @@ pub enum Refusal {
 }
 
 // What a check answers that gives nothing.
-#[derive(Drop)]
+#[derive(Clone, Copy)]
 pub enum Check {
     Passed,
     Refused(Refusal),
 }
 
 // What an operation answers that writes into lent bytes.
-#[derive(Drop)]
+#[derive(Clone, Copy)]
 pub enum Output {
     Written(ByteCount),
     Refused(Refusal),

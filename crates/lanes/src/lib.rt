@@ -1,4 +1,5 @@
 // Many readings of one run at once: each is a lane, one bit of every word of the engine. A row at one step, in all lanes.
+#![tactic(auto)]
 ghost use Rattle.std.specs.Prelude.{◌≡◌, not, cond, ℕ, ◌<◌, eqb};
 ghost use Rattle.rows.specs.Rows.{kind_of};
 ghost use Rattle.signals.specs.Truth.{bit};
@@ -8,7 +9,7 @@ ghost use Rattle.lanes.specs.Lanes.{lane_count, lane};
 use figures::ConditionNumber;
 
 // One of the lanes of a word.
-#[derive(Drop)]
+#[derive(Clone, Copy)]
 pub struct Lane(pub usize);
 
 impl Lane {

@@ -1,11 +1,11 @@
 -- The numbers below a count that have a property: exactly those, and ascending.
 -- Assumes nothing.
 use mathlib.Core.Path.{◌≡◌, refl, sym, ◌∙◌, subst}
-use mathlib.Core.Logic.{◌⊎◌, ⊎_elim}
+use mathlib.Core.Logic.{⊎_elim}
 use mathlib.Core.Bool.{Bool, true, false, cond, So, false≢true}
 use mathlib.Core.List.Memᴰ
 use mathlib.Core.List.{List, [], ◌∷◌, ◌++◌, append-nil, Memᴰ}
-use Prim.Native.Nat.{ℕ, zero, suc, ◌+◌, ◌<◌}
+use Prim.Native.Nat.{ℕ, zero, suc, ◌<◌}
 use native.Mathlib.Omega.{arith}
 use native.Mathlib.Decide.{ℕ_discrete, dec_lt}
 use lib.ListN.{length, get_or, length-append, get_or-append}
@@ -26,7 +26,7 @@ module _ (f : ℕ → Bool) where
   -- each has the property and is below the count
   pub below_has : (m k : ℕ) → Memᴰ k (below m f) → (k < m) × So (f k)
   unfolding below
-  below_has zero k = λ i. absurd (Memᴰ.not_nil i)
+  below_has zero k = λ i. absurd (Memᴰ.not-nil i)
   below_has (suc m) k = one_more (λ l. Memᴰ k l → (k < suc m) × So (f k)) m (last (below_has m k)) (λ _. earlier (below_has m k))
     where
       earlier : (Memᴰ k (below m f) → (k < m) × So (f k)) → Memᴰ k (below m f) → (k < suc m) × So (f k)

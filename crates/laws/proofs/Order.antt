@@ -12,7 +12,7 @@ use Rattle.figures.specs.declared.Refusal.{Refusal}
 use Rattle.figures.specs.Refusals.{Outcome, refusal, number_of, ◌then◌}
 use Rattle.figures.specs.Refusals.Outcome.{refused, gives}
 use Rattle.figures.specs.Numbers.{lowest, refused_at}
-use Rattle.laws.proofs.Given.{not-both}
+use Rattle.laws.proofs.Given.{not_both}
 use Rattle.laws.proofs.Lowest.{Holds, Lowest, lowest_none, lowest_some, lowest_holds, lowest_is}
 
 -- a check passes; it refuses by one number alone; it never refuses by a number
@@ -39,7 +39,7 @@ pub numbered_never : {A : Type 0} (n : ℕ) (x : Outcome A) {m : ℕ} → Number
 numbered_never n x one d p e = d (sym (one n p e))
 
 pub never_gives : {A : Type 0} (n : ℕ) (a : A) → Never n (gives a)
-never_gives n a p e = not-both e refl
+never_gives n a p e = not_both e refl
 
 -- an outcome in another's place
 pub instead : {A : Type 0} {x y o : Outcome A} → x ≡ y → (x ≡ o) ↔ (y ≡ o)
@@ -49,11 +49,11 @@ instead e = (λ h. sym e ∙ h, λ h. e ∙ h)
 module _ {A B : Type 0} (f : A → Outcome B) where
   -- what the earlier check does not say, the later one says
   pub past : (x : Outcome A) (o : Outcome B) → ((k : ℕ) (q : Place) → x ≡ refused k q → refused k q ≡ o → ⊥) → ((x then f) ≡ o) ↔ Giving x (λ a. f a ≡ o)
-  past (refused k q) o other = (λ e. absurd (other k q refl e), λ h. not-both refl h.1.0)
+  past (refused k q) o other = (λ e. absurd (other k q refl e), λ h. not_both refl h.1.0)
   past (gives a) o other = (λ e. (a, (refl, e)), λ h. ap f (same_value h.1.0) ∙ h.1.1)
 
   pub passes_by : (x : Outcome A) (b : B) → ((x then f) ≡ gives b) ↔ Giving x (λ a. f a ≡ gives b)
-  passes_by x b = past x (gives b) (λ k q _ e. not-both refl e)
+  passes_by x b = past x (gives b) (λ k q _ e. not_both refl e)
 
   module _ (n : ℕ) where
     -- an earlier check by another number passes, and the rest refuses
@@ -63,7 +63,7 @@ module _ {A B : Type 0} (f : A → Outcome B) where
     -- the rest never refuses by this number, so this check does
     pub stop_by : (x : Outcome A) (p : Place) → ((a : A) → Never n (f a)) → ((x then f) ≡ refused n p) ↔ (x ≡ refused n p)
     stop_by (refused k q) p none_after = (λ e. let z = same_number e in cc, λ e. cc)
-    stop_by (gives a) p none_after = (λ e. absurd (none_after a p e), λ e. not-both e refl)
+    stop_by (gives a) p none_after = (λ e. absurd (none_after a p e), λ e. not_both e refl)
 
     pub never_by : (x : Outcome A) → Never n x → ((a : A) → Never n (f a)) → Never n (x then f)
     never_by x before after p e = let h = (skip_by x p before).0 e in after h.0 p h.1.1
@@ -102,16 +102,16 @@ then_assoc (gives a) y z = refl
 -- a check that is one test
 module _ {A : Type 0} (x : A) (r : Refusal) where
   pub test_numbered : (b : Bool) → Numbered (cond b (gives x) (refusal r)) (number_of r)
-  test_numbered true m p e = not-both e refl
+  test_numbered true m p e = not_both e refl
   test_numbered false m p e = sym (same_number e)
 
   pub test_passes : (b : Bool) → Passes (cond b (gives x) (refusal r)) ↔ So b
   test_passes true = (λ _. refl, λ _. (x, refl))
-  test_passes false = (λ h. not-both refl h.1, λ e. (x, ap (λ t. cond t (gives x) (refusal r)) e))
+  test_passes false = (λ h. not_both refl h.1, λ e. (x, ap (λ t. cond t (gives x) (refusal r)) e))
 
   pub test_gives : (b : Bool) (y : A) → (cond b (gives x) (refusal r) ≡ gives y) ↔ (So b × (x ≡ y))
   test_gives true y = (λ e. (refl, same_value e), λ h. ap gives h.1)
-  test_gives false y = (λ e. not-both refl e, λ h. absurd (false≢true h.0))
+  test_gives false y = (λ e. not_both refl e, λ h. absurd (false≢true h.0))
 
 -- a test before a check
 pub test_then : {A : Type 0} (b : Bool) (o : Outcome A) (r : Refusal) → cond b o (refusal r) ≡ (cond b (gives (tt {0})) (refusal r) then λ _. o)
@@ -124,7 +124,7 @@ module _ (at : ℕ → Refusal) (m : ℕ) (f : ℕ → Bool) where
   lowest_numbered n same k p = go (lowest m 0 f)
     where
       go : (l : Option ℕ) → refused_at at l ≡ refused k p → k ≡ n
-      go none e = not-both e refl
+      go none e = not_both e refl
       go (some j) e = sym (same_number e) ∙ same j
 
   pub lowest_passes : Passes (refused_at at (lowest m 0 f)) ↔ Holds f 0 m
@@ -135,7 +135,7 @@ module _ (at : ℕ → Refusal) (m : ℕ) (f : ℕ → Bool) where
     where
       go : (l : Option ℕ) → lowest m 0 f ≡ l → refused_at at l ≡ gives tt → lowest m 0 f ≡ none
       go none q e = q
-      go (some j) q e = not-both refl e
+      go (some j) q e = not_both refl e
 
   -- given at a place exactly where it is the lowest that fails, if a place says where it is
   pub lowest_refused :
@@ -150,5 +150,5 @@ module _ (at : ℕ → Refusal) (m : ℕ) (f : ℕ → Bool) where
       same_place e = cc
 
       go : (l : Option ℕ) → lowest m 0 f ≡ l → refused_at at l ≡ refused n (place j) → lowest m 0 f ≡ some j
-      go none q e = not-both e refl
+      go none q e = not_both e refl
       go (some k) q e = q ∙ ap some (sym (tells k) ∙ ap where_is (same_place (sym (is k) ∙ e)) ∙ tells j)

@@ -12,7 +12,7 @@ use Rattle.figures.specs.Refusals.Outcome.{refused}
 use Rattle.figures.specs.declared.Refusal.TheVariants.{Counts, TableLength, RunLength}
 use Rattle.limits.specs.Limits.{within, counts_within, suite_of, most_conditions, most_requirements, most_runs}
 use Rattle.lengths.specs.Lengths.{rows_within, row_bytes, table_of, requirement_of, run_of, most_requirement_rows, most_table_rows, most_steps}
-use Rattle.laws.proofs.Given.{within-means, Beyond, given-3}
+use Rattle.laws.proofs.Given.{within_means, Beyond, given_3}
 use Rattle.laws.proofs.Order.{Passes, Numbered, test_numbered, test_passes}
 
 abbrev pub Within : ℕ → ℕ → ℕ → Type 0
@@ -23,7 +23,7 @@ RightLength most bytes = (bytes % row_bytes ≡ 0) × Within 1 most (bytes / row
 
 length_right : (most bytes : ℕ) → So (rows_within most bytes) ↔ RightLength most bytes
 length_right most bytes =
-    Iff.trans (and-eq-true_iff _ _) (Iff.and (eqb-true _ _, eq-eqb _ _) (within-means 1 most (bytes / row_bytes)))
+    Iff.trans (and-eq-true_iff _ _) (Iff.and (eqb-true _ _, eq-eqb _ _) (within_means 1 most (bytes / row_bytes)))
 
 module _ (c q r : ℕ) where
   pub suite_numbered : Numbered (suite_of c q r) 3
@@ -35,8 +35,8 @@ module _ (c q r : ℕ) where
   suite_passes =
       Iff.trans (test_passes _ Counts (counts_within c q r))
       (Iff.trans (and-eq-true_iff _ _)
-      (Iff.and (within-means 1 most_conditions c)
-      (Iff.trans (and-eq-true_iff _ _) (Iff.and (within-means 1 most_requirements q) (within-means 1 most_runs r)))))
+      (Iff.and (within_means 1 most_conditions c)
+      (Iff.trans (and-eq-true_iff _ _) (Iff.and (within_means 1 most_requirements q) (within_means 1 most_runs r)))))
 
 -- of a lone table or run only the conditions can be beyond their limits
 pub lone_passes : (c : ℕ) → Passes (suite_of c 1 1) ↔ Within 1 most_conditions c
@@ -45,7 +45,7 @@ lone_passes c =
 
 pub lone_refused : (c : ℕ) → (suite_of c 1 1 ≡ refused 3 place.None) ↔ Beyond 1 most_conditions c
 lone_refused c =
-    Iff.trans (given-3 c 1 1) (⊎_elim (λ h. h) (⊎_elim never never), inl)
+    Iff.trans (given_3 c 1 1) (⊎_elim (λ h. h) (⊎_elim never never), inl)
   where
     never : {A : Type 0} {most : ℕ} → Beyond 1 (suc most) 1 → A
     never b = absurd (⊎_elim (λ l. omega arith) (λ l. omega arith) b)
@@ -74,4 +74,4 @@ module _ (steps : ℕ) where
 
   pub run_passes : Passes (run_of steps) ↔ Within 1 most_steps steps
   unfolding run_of
-  run_passes = Iff.trans (test_passes _ RunLength (within 1 most_steps steps)) (within-means 1 most_steps steps)
+  run_passes = Iff.trans (test_passes _ RunLength (within 1 most_steps steps)) (within_means 1 most_steps steps)

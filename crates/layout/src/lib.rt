@@ -1,4 +1,5 @@
 // The form of a suite file.
+#![tactic(auto)]
 ghost use Rattle.std.specs.Prelude.{◌≡◌};
 ghost use Rattle.layout.specs.Checks.{range_of, of_suite};
 
@@ -6,21 +7,21 @@ use figures::{ByteOffset, RequirementCount};
 use limits::Suite;
 
 // How many requirements a file may have.
-#[derive(Drop)]
+#[derive(Clone, Copy)]
 pub struct RequirementRange {
     pub least: RequirementCount,
     pub most: RequirementCount,
 }
 
 // What going through the entries finds: the first wrong one, or where the file must end.
-#[derive(Drop)]
+#[derive(Clone, Copy)]
 pub enum Entries {
     Wrong(ByteOffset),
     End(ByteOffset),
 }
 
 // Form 1: its number, the bytes of the head, of an entry, and of a step.
-#[derive(Drop)]
+#[derive(Clone, Copy)]
 pub struct Form(pub usize);
 
 impl Form {

@@ -1,4 +1,5 @@
 // The lengths of tables and runs: each limit named once, and the constructors that apply them.
+#![tactic(auto)]
 ghost use Rattle.std.specs.Prelude.{◌≡◌};
 ghost use Rattle.limits.specs.Limits.{within};
 ghost use Rattle.lengths.specs.Lengths.{rows_within, table_says, requirement_says, run_says, table_of, requirement_of, run_of};
@@ -12,30 +13,30 @@ fn rows_within(most: usize, bytes: usize) -> bool
 }
 
 // A formula table's number of rows, within its limits.
-#[derive(Drop)]
+#[derive(Clone, Copy)]
 pub struct Table(pub RowCount);
 
 // A requirement's number of rows, within its limits.
-#[derive(Drop)]
+#[derive(Clone, Copy)]
 pub struct Requirement(pub RowCount);
 
 // A run's number of steps, within its limits.
-#[derive(Drop)]
+#[derive(Clone, Copy)]
 pub struct Run(pub StepCount);
 
-#[derive(Drop)]
+#[derive(Clone, Copy)]
 pub enum TableAnswer {
     Made(Table),
     Refused(Refusal),
 }
 
-#[derive(Drop)]
+#[derive(Clone, Copy)]
 pub enum RequirementAnswer {
     Made(Requirement),
     Refused(Refusal),
 }
 
-#[derive(Drop)]
+#[derive(Clone, Copy)]
 pub enum RunAnswer {
     Made(Run),
     Refused(Refusal),

@@ -1,4 +1,5 @@
 // The limits of a suite, each named once, and the constructors that apply them.
+#![tactic(auto)]
 ghost use Rattle.std.specs.Prelude.{◌≡◌};
 ghost use Rattle.figures.specs.Refusals.{check_says};
 ghost use Rattle.limits.specs.Limits.{within, counts_within, suite_says, suite_of, file_of};
@@ -20,14 +21,14 @@ fn counts_within(conditions: usize, requirements: usize, runs: usize) -> bool
 }
 
 // A suite's counts, within their limits.
-#[derive(Drop)]
+#[derive(Clone, Copy)]
 pub struct Suite {
     pub conditions: ConditionCount,
     pub requirements: RequirementCount,
     pub runs: RunCount,
 }
 
-#[derive(Drop)]
+#[derive(Clone, Copy)]
 pub enum SuiteAnswer {
     Made(Suite),
     Refused(Refusal),

@@ -2,7 +2,7 @@
 -- Assumes nothing.
 use native.Mathlib.Nat.{zero-add}
 use native.Mathlib.Omega.{arith}
-use mathlib.Core.Path.{◌≡◌, refl, sym, ◌∙◌, ap, ap₂}
+use mathlib.Core.Path.{◌≡◌, refl, sym, ◌∙◌, ap}
 use mathlib.Core.Logic.Iff
 use mathlib.Core.Logic.{◌↔◌}
 use mathlib.Core.List.{List, ◌++◌}
@@ -10,12 +10,11 @@ use Prim.Native.Nat.{ℕ, ◌≤◌, ◌<◌}
 use borrow.Author.Tests.{leb-true, le-leb}
 use lib.Dec.{leb}
 use lib.ListN.{length, take, drop}
-use lib.Seq.{take-length}
 use Rattle.figures.specs.declared.Place.TheVariants as place
 use Rattle.figures.specs.declared.Refusal.TheVariants.{ShortOutput}
 use Rattle.figures.specs.Refusals.{refusal}
 use Rattle.figures.specs.Refusals.Outcome.{refused, gives}
-use Rattle.laws.proofs.Given.{refused-when, over-means}
+use Rattle.laws.proofs.Given.{refused_when, over_means}
 use Rattle.laws.proofs.Lent.{Answered, answered}
 use Rattle.laws.proofs.Order.{Numbered, test_numbered, test_gives}
 use Rattle.io.specs.Counts.{IsPrefixLen}
@@ -29,7 +28,7 @@ module _ (text : List ℕ) (room : ℕ) where
   text_numbered = test_numbered (length text) ShortOutput (leb (length text) room)
 
   pub text_14 : (text_of text room ≡ refused 14 place.None) ↔ (room < length text)
-  text_14 = Iff.trans (refused-when (length text) ShortOutput _) (over-means (length text) room)
+  text_14 = Iff.trans (refused_when (length text) ShortOutput _) (over_means (length text) room)
 
   pub text_written : (n : ℕ) → (text_of text room ≡ gives n) ↔ ((length text ≤ room) × (length text ≡ n))
   text_written n = Iff.trans (test_gives (length text) ShortOutput _ n) (Iff.and (leb-true _ room, le-leb _ room) Iff.rfl)
@@ -57,10 +56,8 @@ module _ (text : List ℕ) {before array : List ℕ} {end : ℕ} (size : end ≡
     too_short l = answered text out (sym ((text_14 text (length out)).1 (omega arith))) refl
 
     pub written :
-        {after : List ℕ} → end ≤ length out → after ≡ take (length (take end array)) (take end array) ++ drop (length (take end array)) out →
+        {after : List ℕ} → end ≤ length out → after ≡ take end array ++ drop end out →
         Answered text out (text_of text (length out)) (gives end) after
     written l copied =
         answered text out (sym ((text_written text (length out) end).1 (omega arith, sym size)))
-        (copied
-        ∙ ap (λ (x : List ℕ). take (length x) x ++ drop (length x) out) front_is
-        ∙ ap₂ (λ (x : List ℕ) (n : ℕ). x ++ drop n out) (take-length text) (sym size))
+        (copied ∙ ap (λ (x : List ℕ). x ++ drop end out) front_is)

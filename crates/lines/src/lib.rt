@@ -1,5 +1,6 @@
 // Lines of text, written into lent bytes one field after the other: words, decimal numbers, and the line of a refusal.
 // These are helpers of the rooms above: a caller shows that the text fits.
+#![tactic(auto)]
 ghost use Rattle.std.specs.Prelude.{◌≡◌, [], ◌∷◌, ◌++◌, ◌+◌, ◌≤◌, length};
 ghost use Rattle.figures.specs.Refusals.{number_of, place_of};
 ghost use Rattle.lines.specs.Lines.{decimal, refused_line, Put};
@@ -7,7 +8,7 @@ ghost use Rattle.lines.specs.Lines.{decimal, refused_line, Put};
 use figures::{ByteCount, Place, Refusal, RefusalNumber};
 
 // A figure as a printed field: the definition of its line says what it counts.
-#[derive(Drop)]
+#[derive(Clone, Copy)]
 pub struct Field(pub usize);
 
 // Writes a word and one byte after it, from so many bytes on; the bytes written till then come back.

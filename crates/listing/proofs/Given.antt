@@ -16,7 +16,7 @@ use Rattle.figures.specs.declared.Place.TheVariants as place
 use Rattle.figures.specs.declared.Refusal.TheVariants.{NoSuch, ShortOutput}
 use Rattle.figures.specs.Refusals.{Outcome, refusal, ◌then◌}
 use Rattle.figures.specs.Refusals.Outcome.{refused, gives}
-use Rattle.laws.proofs.Given.{refused-when, over-means}
+use Rattle.laws.proofs.Given.{refused_when, over_means}
 use Rattle.laws.proofs.Order.{Passes, Numbered, Never, instead, numbered_never, never_then, skip, skip_never, stop, passes, test_numbered, test_passes, test_gives, test_then}
 use Rattle.rows.specs.Checks.{occurrences}
 use Rattle.layout.specs.Layout.{form1, requirements_in, runs_in}
@@ -107,7 +107,7 @@ module _ (file : List ℕ) (q room : ℕ) where
       Iff.trans (past_file 12 _ (omega arith))
       (Iff.and Iff.rfl
       (Iff.trans (stop size 12 number _ (never_size 12 (omega arith)))
-      (Iff.trans (refused-when tt NoSuch there) (not_below q (requirements_in file)))))
+      (Iff.trans (refused_when tt NoSuch there) (not_below q (requirements_in file)))))
 
   pub given_14 : (answer ≡ refused 14 place.None) ↔ (FileRight form1 file × (q < requirements_in file) × (room < needed file q))
   given_14 =
@@ -115,7 +115,7 @@ module _ (file : List ℕ) (q room : ℕ) where
       (Iff.trans
       (Iff.and Iff.rfl
       (Iff.trans (skip size 14 number _ number_12 (λ e. omega arith))
-      (Iff.and number_passes (Iff.trans (refused-when bytes ShortOutput enough) (over-means _ room)))))
+      (Iff.and number_passes (Iff.trans (refused_when bytes ShortOutput enough) (over_means _ room)))))
       (λ h. (h.0, h.1.0, h.1.1), λ h. (h.0, (h.1, h.2))))
 
   -- nothing is refused

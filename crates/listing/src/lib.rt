@@ -1,4 +1,5 @@
 // The operation `list`: the covered pairs of one requirement of a suite.
+#![tactic(auto)]
 ghost use Rattle.std.specs.Prelude.{◌≡◌, ◌*◌, ◌<◌, length};
 ghost use Rattle.layout.specs.Layout.{form1, requirements_in, runs_in};
 ghost use Rattle.layout.specs.Checks.{requirement_rows_in, run_words_in};
@@ -12,7 +13,7 @@ use lengths::{Requirement, Table};
 use limits::{Suite, SuiteAnswer};
 
 // The most bytes of a list: two for each row and run.
-#[derive(Drop)]
+#[derive(Clone, Copy)]
 pub struct Pairs(pub usize);
 
 impl Pairs {

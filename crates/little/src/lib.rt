@@ -1,4 +1,5 @@
 // Little-endian numbers, read from lent bytes.
+#![tactic(auto)]
 ghost use Rattle.std.specs.Prelude.{◌≡◌, ◌+◌, ◌*◌, ◌≤◌, ◌<◌, length, get_or};
 ghost use Rattle.little.specs.Little.{little_at};
 

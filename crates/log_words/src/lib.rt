@@ -1,4 +1,5 @@
 // One step's word of a recorded run: which conditions hold, by their limits and the travel at the step, all in encoder counts.
+#![tactic(auto)]
 ghost use Rattle.std.specs.Prelude.{◌≡◌, cond, ◌≤◌, length};
 ghost use Rattle.limits.specs.Limits.{most_conditions};
 ghost use Rattle.log_words.specs.StepWord.{holds_at, word_by};
@@ -6,7 +7,7 @@ ghost use Rattle.log_words.specs.StepWord.{holds_at, word_by};
 use encoder::Travel;
 
 // The travel from which on a condition holds, in encoder counts.
-#[derive(Drop)]
+#[derive(Clone, Copy)]
 pub struct Limit(pub i32);
 
 // Whether a condition holds at a step, by its limit and the travel at that step.

@@ -17,7 +17,7 @@ use Rattle.figures.specs.Refusals.{Outcome, refusal, ◌then◌}
 use Rattle.figures.specs.Refusals.Outcome.{refused, gives}
 use Rattle.lengths.specs.Lengths.{run_of, most_steps}
 use Rattle.limits.specs.Limits.{within}
-use Rattle.laws.proofs.Given.{Beyond, either-iff, not-and, beyond-means, refused-when, within-means}
+use Rattle.laws.proofs.Given.{Beyond, either_iff, not_and, beyond_means, refused_when, within_means}
 use Rattle.laws.proofs.Lowest.{Holds}
 use Rattle.laws.proofs.Order.{Giving, Numbered, Never, instead, numbered_never, never_by, never_gives, never_then, skip_by, stop, stop_by, passes, passes_by, test_numbered, test_gives}
 use Rattle.laws.proofs.Passed.{Within}
@@ -54,15 +54,15 @@ module _ (log : List ℕ) where
   steps_refused : (steps_of log ≡ refused 10 place.None) ↔ WrongSteps log
   steps_refused =
       Iff.trans (instead one_test)
-      (Iff.trans (refused-when (steps_in log) RunLength right)
-      (Iff.trans (not-and _ _)
-      (either-iff (λ h e. h (eq-eqb _ _ e), λ h t. h (eqb-true _ _ t)) (beyond-means 1 most_steps (steps_in log)))))
+      (Iff.trans (refused_when (steps_in log) RunLength right)
+      (Iff.trans (not_and _ _)
+      (either_iff (λ h e. h (eq-eqb _ _ e), λ h t. h (eqb-true _ _ t)) (beyond_means 1 most_steps (steps_in log)))))
 
   steps_give : (n : ℕ) → (steps_of log ≡ gives n) ↔ (RightSteps log × (steps_in log ≡ n))
   steps_give n =
       Iff.trans (instead one_test)
       (Iff.trans (test_gives (steps_in log) RunLength right n)
-      (Iff.and (Iff.trans (and-eq-true_iff _ _) (Iff.and (eqb-true _ _, eq-eqb _ _) (within-means 1 most_steps (steps_in log)))) Iff.rfl))
+      (Iff.and (Iff.trans (and-eq-true_iff _ _) (Iff.and (eqb-true _ _, eq-eqb _ _) (within_means 1 most_steps (steps_in log)))) Iff.rfl))
 
   -- the two in order
   abbrev after : ℕ → Outcome ℕ

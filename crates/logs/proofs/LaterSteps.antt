@@ -12,7 +12,7 @@ use Rattle.figures.specs.declared.Place.{Place}
 use Rattle.figures.specs.declared.Place.TheVariants as place
 use Rattle.figures.specs.Refusals.{Outcome, printed_place}
 use Rattle.figures.specs.Refusals.Outcome.{refused, gives}
-use Rattle.laws.proofs.Given.{not-both}
+use Rattle.laws.proofs.Given.{not_both}
 use Rattle.laws.proofs.Lowest.{Holds, Lowest, lowest_is, lowest_some, lowest_none, lowest_holds}
 use Rattle.laws.proofs.Order.{Numbered, same_number}
 use Rattle.encoder.specs.Log.{difference_in, half_turn, lowest_half_turn, steps_in}
@@ -31,7 +31,7 @@ module _ (log : List ℕ) where
   turns_numbered m p = go (lowest_half_turn log)
     where
       go : (l : Option ℕ) → turns_of l ≡ refused m p → m ≡ 17
-      go none e = not-both e refl
+      go none e = not_both e refl
       go (some k) e = sym (same_number e)
 
   -- the lowest step after step 0 whose difference is half a turn
@@ -50,7 +50,7 @@ module _ (log : List ℕ) where
     where
       go : (l : Option ℕ) → lowest_half_turn log ≡ l → turns_of l ≡ gives tt → lowest_half_turn log ≡ none
       go none q e = q
-      go (some k) q e = not-both refl e
+      go (some k) q e = not_both refl e
 
       there : lowest_half_turn log ≡ none → Holds (reads log) 1 (steps_in log)
       there e zero l g = refl
@@ -73,7 +73,7 @@ module _ (log : List ℕ) where
       same_place e = cc
 
       go : (l : Option ℕ) → lowest_half_turn log ≡ l → turns_of l ≡ refused 17 (place.Step (record { 0 = i })) → HalfTurnAt i
-      go none q e = not-both e refl
+      go none q e = not_both e refl
       go (some k) q e = subst HalfTurnAt (ap printed_place (same_place e)) (later k (lowest_is (steps_in log - 1) 0 early k q))
 
       back : (j : ℕ) → HalfTurnAt j → turns ≡ refused 17 (place.Step (record { 0 = j }))

@@ -1,4 +1,5 @@
 // The checks of an encoder log, behind refusals 10 and 17.
+#![tactic(auto)]
 ghost use Rattle.std.specs.Prelude.{◌≡◌, ◌≤◌};
 ghost use Rattle.lengths.specs.Lengths.{most_steps};
 ghost use Rattle.encoder.specs.Log.{lowest_half_turn, steps_in};
@@ -11,21 +12,21 @@ use figures::{Place, Refusal, RefusalNumber, StepCount, StepNumber};
 use lengths::{Run, RunAnswer};
 
 // Why a log is refused: one of document 01's refusals, or 17 at the later step.
-#[derive(Drop)]
+#[derive(Clone, Copy)]
 pub enum LogRefusal {
     Listed(Refusal),
     HalfTurn(StepNumber),
 }
 
 // What a check of a log answers.
-#[derive(Drop)]
+#[derive(Clone, Copy)]
 pub enum LogAnswer {
     Steps(StepCount),
     Refused(LogRefusal),
 }
 
 // The lowest step that a search found.
-#[derive(Drop)]
+#[derive(Clone, Copy)]
 pub enum StepAnswer {
     At(StepNumber),
     Nowhere,

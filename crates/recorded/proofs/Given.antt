@@ -17,13 +17,13 @@ use Rattle.limits.specs.declared.Suite.{Suite}
 use Rattle.figures.specs.Refusals.{Outcome, ◌then◌}
 use Rattle.figures.specs.Refusals.Outcome.{refused, gives}
 use Rattle.limits.specs.Limits.{suite_of, most_conditions}
-use Rattle.laws.proofs.Given.{Beyond, over-means, refused-when}
+use Rattle.laws.proofs.Given.{Beyond, over_means, refused_when}
 use Rattle.laws.proofs.Lowest.{Holds}
 use Rattle.laws.proofs.Order.{Giving, Never, instead, numbered_never, never_by, passes, passes_by, skip, skip_by, stop, stop_by, test_gives, test_numbered}
 use Rattle.laws.proofs.Passed.{Within, lone_passes, lone_refused, suite_numbered}
 use Rattle.encoder.specs.Log.{steps_in}
 use Rattle.logs.specs.LogRefusals.{log_of}
-use Rattle.logs.proofs.Given.{RightSteps, WrongSteps, never-else, given-10 as log_10, given-17 as log_17, given-steps as log_steps}
+use Rattle.logs.proofs.Given.{RightSteps, WrongSteps, never_else, given_10 as log_10, given_17 as log_17, given_steps as log_steps}
 use Rattle.logs.proofs.LaterSteps.{HalfTurnAt, reads}
 use Rattle.recorded.specs.Recorded.{room_for, taken_of}
 
@@ -71,16 +71,16 @@ module _ (log : List ℕ) (limits : List ℤ) (room : ℕ) where
       Iff.trans (instead in_order)
       (Iff.trans
       (stop after 3 suite place.None
-      (never_by last 3 (log_of log) (never-else log 3 (λ e. omega arith) (λ e. omega arith)) (never_last 3 (λ e. omega arith))))
+      (never_by last 3 (log_of log) (never_else log 3 (λ e. omega arith) (λ e. omega arith)) (never_last 3 (λ e. omega arith))))
       (lone_refused (length limits)))
 
-  pub given-10 : (answer ≡ refused 10 place.None) ↔ (LimitsWithin × WrongSteps log)
-  given-10 =
+  pub given_10 : (answer ≡ refused 10 place.None) ↔ (LimitsWithin × WrongSteps log)
+  given_10 =
       Iff.trans (past_limits 10 place.None (λ e. omega arith))
       (Iff.and Iff.rfl (Iff.trans (stop_by last 10 (log_of log) place.None (never_last 10 (λ e. omega arith))) (log_10 log)))
 
-  pub given-17 : (i : ℕ) → (answer ≡ refused 17 (place.Step (record { 0 = i }))) ↔ (LimitsWithin × (RightSteps log × HalfTurnAt log i))
-  given-17 i =
+  pub given_17 : (i : ℕ) → (answer ≡ refused 17 (place.Step (record { 0 = i }))) ↔ (LimitsWithin × (RightSteps log × HalfTurnAt log i))
+  given_17 i =
       Iff.trans (past_limits 17 (place.Step (record { 0 = i })) (λ e. omega arith))
       (Iff.and Iff.rfl
       (Iff.trans (stop_by last 17 (log_of log) (place.Step (record { 0 = i })) (never_last 17 (λ e. omega arith))) (log_17 log i)))
@@ -89,13 +89,13 @@ module _ (log : List ℕ) (limits : List ℤ) (room : ℕ) where
   given_14 =
       Iff.trans (past_limits 14 place.None (λ e. omega arith))
       (Iff.and Iff.rfl
-      (Iff.trans (skip_by last 14 (log_of log) place.None (never-else log 14 (λ e. omega arith) (λ e. omega arith)))
+      (Iff.trans (skip_by last 14 (log_of log) place.None (never_else log 14 (λ e. omega arith) (λ e. omega arith)))
       (Iff.trans (giving (λ n. last n ≡ refused 14 place.None))
       (Iff.and Iff.rfl
-      (Iff.trans (refused-when (steps_in log) ShortOutput (leb (steps_in log) room)) (over-means (steps_in log) room))))))
+      (Iff.trans (refused_when (steps_in log) ShortOutput (leb (steps_in log) room)) (over_means (steps_in log) room))))))
 
-  pub given-steps : (n : ℕ) → (answer ≡ gives n) ↔ (LimitsWithin × (LogTaken × ((steps_in log ≤ room) × (steps_in log ≡ n))))
-  given-steps n =
+  pub given_steps : (n : ℕ) → (answer ≡ gives n) ↔ (LimitsWithin × (LogTaken × ((steps_in log ≤ room) × (steps_in log ≡ n))))
+  given_steps n =
       Iff.trans (instead in_order)
       (Iff.trans (passes suite after n)
       (Iff.and (lone_passes (length limits))

@@ -1,5 +1,6 @@
 // Taking in a recorded run: an encoder log and the conditions' limits made into a lone run of words. All of it is in encoder counts, none
 // of it in millimetres or inches.
+#![tactic(auto)]
 ghost use Rattle.std.specs.Prelude.{◌≡◌, ◌++◌, ◌≤◌, length, drop};
 ghost use Rattle.limits.specs.Limits.{most_conditions};
 ghost use Rattle.lengths.specs.Lengths.{most_steps};
@@ -13,7 +14,7 @@ use limits::{Suite, SuiteAnswer};
 use logs::{LogAnswer, LogRefusal};
 
 // What taking in a run answers: how many words it wrote, one a step, or why it wrote none.
-#[derive(Drop)]
+#[derive(Clone, Copy)]
 pub enum Taken {
     Steps(StepCount),
     Refused(LogRefusal),

@@ -12,11 +12,11 @@ use borrow.Author.Tests.{leb-true, le-leb}
 use lib.ListN.{length}
 use Rattle.figures.specs.declared.Place.{Place}
 use Rattle.figures.specs.declared.Place.TheVariants as place
-use Rattle.figures.specs.declared.Refusal.TheVariants.{ShortOutput}
+use Rattle.figures.specs.declared.Refusal.TheVariants.{UnsoundRow, NotRequirement, ShortOutput}
 use Rattle.figures.specs.Refusals.{Outcome, printed_place}
 use Rattle.figures.specs.Refusals.Outcome.{refused, gives}
 use Rattle.lengths.specs.Lengths.{row_bytes}
-use Rattle.laws.proofs.Given.{refused-when, over-means}
+use Rattle.laws.proofs.Given.{refused_when, over_means}
 use Rattle.laws.proofs.Lowest.{Lowest}
 use Rattle.laws.proofs.Order.{Numbered, test_numbered, test_gives, lowest_refused}
 use Rattle.laws.proofs.Unique.{one_answer, unique, read_back, read_refusal}
@@ -26,7 +26,7 @@ use Rattle.codec.specs.declared.Encoded.{Encoded}
 use Rattle.codec.specs.declared.Encoded.TheVariants as answer
 use Rattle.rows.specs.Rows.{Row, row_at}
 use Rattle.codec.specs.Codec.{encoded_says, encode_of, fits}
-use Rattle.rows.specs.Checks.{row_sound, named_once, not_over_condition, rows_checked, requirement_checked, found_row}
+use Rattle.rows.specs.Checks.{lone_row, row_sound, named_once, not_over_condition, rows_checked, requirement_checked, found_row}
 
 -- the place of a row
 abbrev pub at_row : ℕ → Place
@@ -35,20 +35,20 @@ at_row r = place.Row (record { 0 = r })
 pub given_8 :
     (conditions : ℕ) (rows : List Row) (r : ℕ) →
     (rows_checked conditions rows ≡ refused 8 (at_row r)) ↔ Lowest (λ r. row_sound conditions r (row_at rows r)) (length rows) 0 r
-given_8 conditions rows = lowest_refused _ _ _ 8 at_row printed_place (λ k. refl) (λ k. refl)
+given_8 conditions rows = lowest_refused (λ r. UnsoundRow (lone_row r)) _ _ 8 at_row printed_place (λ k. refl) (λ k. refl)
 
 pub given_9 :
     (rows : List Row) (r : ℕ) →
     (requirement_checked rows ≡ refused 9 (at_row r)) ↔ Lowest (λ r. named_once rows r && not_over_condition rows r) (length rows) 0 r
-given_9 rows = lowest_refused _ _ _ 9 at_row printed_place (λ k. refl) (λ k. refl)
+given_9 rows = lowest_refused (λ r. NotRequirement (lone_row r)) _ _ 9 at_row printed_place (λ k. refl) (λ k. refl)
 
 -- 14 where three bytes a row are more than there is room for, and else so many are written
 module _ (rows : List Row) (room : ℕ) where
   pub given_14 : (encode_of rows room ≡ refused 14 place.None) ↔ (room < row_bytes * length rows)
   unfolding encode_of
   given_14 =
-      Iff.trans (refused-when _ ShortOutput (fits rows room))
-      (Iff.trans (over-means (length rows) (room / row_bytes)) (λ l. omega arith, λ l. omega arith))
+      Iff.trans (refused_when _ ShortOutput (fits rows room))
+      (Iff.trans (over_means (length rows) (room / row_bytes)) (λ l. omega arith, λ l. omega arith))
 
   pub given_written : (n : ℕ) → (encode_of rows room ≡ gives n) ↔ ((row_bytes * length rows ≤ room) × (row_bytes * length rows ≡ n))
   unfolding encode_of

@@ -14,14 +14,14 @@ use Rattle.figures.specs.declared.Refusal.TheVariants.{NoSuch}
 use Rattle.figures.specs.Refusals.{refusal}
 use Rattle.figures.specs.Refusals.Outcome.{refused, gives}
 use Rattle.laws.proofs.Ascending.{below_has}
-use Rattle.laws.proofs.Given.{not-both}
+use Rattle.laws.proofs.Given.{not_both}
 use Rattle.laws.proofs.Order.{Numbered, Giving, same_number}
 use Rattle.rows.specs.Rows.{Row}
 use Rattle.rows.specs.Checks.{condition_at, occurrences, occurrence_at, occurrence_of}
 
 -- what is found at a place is in the list, and is what the list has there
 found : (l : List ℕ) (k : ℕ) {p : ℕ} → occurrence_at (get_elem? l k) ≡ gives p → Memᴰ p l × (p ≡ get_or l k 0)
-found [] k e = not-both refl e
+found [] k e = not_both refl e
 found (x ∷ l) zero {p} e = let q : p ≡ x = cc in (Memᴰ.head q, q)
 found (x ∷ l) (suc k) e = let h = found l k e in (Memᴰ.tail h.0, h.1)
 
@@ -42,7 +42,7 @@ module _ (rows : List Row) (k : ℕ) where
     where
       go : (o : Option ℕ) → Numbered (occurrence_at o) 12
       go none m p e = sym (same_number e)
-      go (some r) m p e = not-both e refl
+      go (some r) m p e = not_both e refl
 
   pub occurrence_there : k < length (occurrences rows) → occurrence_of rows k ≡ gives (get_or (occurrences rows) k 0)
   occurrence_there = inside (occurrences rows) k
@@ -51,7 +51,7 @@ module _ (rows : List Row) (k : ℕ) where
   given_12 = (λ e. go e (dec_lt k (length (occurrences rows))), outside (occurrences rows) k)
     where
       go : occurrence_of rows k ≡ refused 12 place.None → Dec (k < length (occurrences rows)) → length (occurrences rows) ≤ k
-      go e (yes l) = not-both e (occurrence_there l)
+      go e (yes l) = not_both e (occurrence_there l)
       go e (no l) = omega arith
 
   -- 12 passed, and what it gives
@@ -63,7 +63,7 @@ module _ (rows : List Row) (k : ℕ) where
     where
       go : {p : ℕ} → occurrence_of rows k ≡ gives p → Dec (k < length (occurrences rows)) → k < length (occurrences rows)
       go e (yes l) = l
-      go e (no l) = not-both (outside (occurrences rows) k (omega arith)) e
+      go e (no l) = not_both (outside (occurrences rows) k (omega arith)) e
 
 -- 12 passed
 module _ (rows : List Row) (k : ℕ) {p : ℕ} (there : gives p ≡ occurrence_of rows k) where

@@ -9,18 +9,19 @@ use Prim.Native.Nat.{ℕ, ◌<◌}
 use native.Mathlib.Omega.{arith}
 use lib.ListN.{length}
 use Rattle.figures.specs.declared.Place.TheVariants as place
+use Rattle.figures.specs.declared.Refusal.TheVariants.{UnsoundRow, NotRequirement}
 use Rattle.figures.specs.Refusals.{Outcome, ◌then◌}
 use Rattle.figures.specs.Refusals.Outcome.{refused}
 use Rattle.limits.specs.Limits.{most_conditions}
 use Rattle.lengths.specs.Lengths.{most_requirement_rows}
-use Rattle.laws.proofs.Given.{Beyond, WrongLength, given-7-requirement}
+use Rattle.laws.proofs.Given.{Beyond, WrongLength, given_7_requirement}
 use Rattle.laws.proofs.Lowest.{Lowest}
 use Rattle.laws.proofs.Order.{Passes, Numbered, Never, numbered_never, never_gives, never_by, never_then, skip, skip_never, stop, both_pass, lowest_numbered, lowest_passes}
 use Rattle.laws.proofs.Passed.{Within, RightLength, suite_numbered, lone_passes, lone_refused, requirement_numbered}
 use Rattle.rows.specs.Rows.{Row, row_at}
 use Rattle.codec.specs.Codec.{rows_of}
-use Rattle.rows.specs.Checks.{row_sound, named_once, not_over_condition, rows_checked, requirement_checked, requirement_rows, requirement_sized}
-use Rattle.row_laws.proofs.Given.{at_row, given-8 as row_unsound, given-9 as row_unrequired}
+use Rattle.rows.specs.Checks.{lone_row, row_sound, named_once, not_over_condition, rows_checked, requirement_checked, requirement_rows, requirement_sized}
+use Rattle.row_laws.proofs.Given.{at_row, given_8 as row_unsound, given_9 as row_unrequired}
 use Rattle.row_laws.proofs.Sized.{requirement_sized_lem}
 use Rattle.row_laws.proofs.Sound.{Sound, Required}
 
@@ -42,14 +43,14 @@ module _ (conditions : ℕ) (requirement : List ℕ) where
   taken_passes =
       Iff.trans (both_pass _ _)
       (Iff.and (requirement_sized_lem conditions (length requirement))
-      (Iff.trans (both_pass _ _) (Iff.and (lowest_passes _ _ _) (lowest_passes _ _ _))))
+      (Iff.trans (both_pass _ _) (Iff.and (lowest_passes (λ r. UnsoundRow (lone_row r)) _ _) (lowest_passes (λ r. NotRequirement (lone_row r)) _ _))))
 
   -- the numbers that are given
   unsound_8 : Numbered (rows_checked conditions rows) 8
-  unsound_8 = lowest_numbered _ _ _ 8 (λ k. refl)
+  unsound_8 = lowest_numbered (λ x. UnsoundRow (lone_row x)) _ _ 8 (λ k. refl)
 
   unrequired_9 : Numbered (requirement_checked rows) 9
-  unrequired_9 = lowest_numbered _ _ _ 9 (λ k. refl)
+  unrequired_9 = lowest_numbered (λ x. NotRequirement (lone_row x)) _ _ 9 (λ k. refl)
 
   never_sized : (n : ℕ) → 7 < n → Never n (requirement_sized conditions (length requirement))
   never_sized n l =
@@ -76,21 +77,21 @@ module _ (conditions : ℕ) (requirement : List ℕ) where
       Iff.trans (stop _ 7 _ _ (never_rows 7 (λ e. omega arith) (λ e. omega arith)))
       (Iff.trans (skip _ 7 _ _ (suite_numbered conditions 1 1) (λ e. omega arith))
       (Iff.and (lone_passes conditions)
-      (Iff.trans (stop _ 7 _ _ (never_gives 7 _)) (given-7-requirement (length requirement)))))
+      (Iff.trans (stop _ 7 _ _ (never_gives 7 _)) (given_7_requirement (length requirement)))))
 
-  pub given-8 :
+  pub given_8 :
       (r : ℕ) →
       (taken ≡ refused 8 (at_row r)) ↔ (RequirementSized × Lowest (λ r. row_sound conditions r (row_at rows r)) (length rows) 0 r)
-  given-8 r =
+  given_8 r =
       Iff.trans (skip_never _ 8 _ _ (never_sized 8 (omega arith)))
       (Iff.and (requirement_sized_lem conditions (length requirement))
       (Iff.trans (stop _ 8 _ _ (numbered_never 8 _ unrequired_9 (λ e. omega arith))) (row_unsound conditions rows r)))
 
-  pub given-9 :
+  pub given_9 :
       (r : ℕ) →
       (taken ≡ refused 9 (at_row r))
       ↔ (RequirementSized × (Sound conditions rows × Lowest (λ r. named_once rows r && not_over_condition rows r) (length rows) 0 r))
-  given-9 r =
+  given_9 r =
       Iff.trans (skip_never _ 9 _ _ (never_sized 9 (omega arith)))
       (Iff.and (requirement_sized_lem conditions (length requirement))
-      (Iff.trans (skip _ 9 _ _ unsound_8 (λ e. omega arith)) (Iff.and (lowest_passes _ _ _) (row_unrequired rows r))))
+      (Iff.trans (skip _ 9 _ _ unsound_8 (λ e. omega arith)) (Iff.and (lowest_passes (λ x. UnsoundRow (lone_row x)) _ _) (row_unrequired rows r))))

@@ -1,11 +1,12 @@
 // A block of steps, and one row over it: the row's words at the block's steps, written from the last step to the first.
+#![tactic(auto)]
 ghost use Rattle.std.specs.Prelude.{◌≡◌, ◌≤◌, length};
 ghost use Rattle.row_lines.specs.RowLines.{block_steps, block_words, Fits, Lined};
 
 use figures::ConditionNumber;
 
 // A block of steps. The words of a row at its steps are the row's line; the lines of all rows stand one after another.
-#[derive(Drop)]
+#[derive(Clone, Copy)]
 pub struct Block(pub usize);
 
 impl Block {
@@ -17,7 +18,7 @@ impl Block {
 
 // A row to be judged over a block: its number, its fields, in which lanes it reads the run and what it reads in the others, what its first
 // child and the row itself have at the step after the block, and whether there is no such step.
-#[derive(Drop)]
+#[derive(Clone, Copy)]
 pub struct Line {
     pub row: usize,
     pub first: usize,

@@ -1,5 +1,6 @@
 // Formula rows: their kinds, and the check of one row behind refusal 8.
 // A row is three numbers, as document 01 has them: kind, first, second.
+#![tactic(auto)]
 ghost use Rattle.std.specs.Prelude.{◌≡◌, cond, ◌≤◌, ◌<◌};
 ghost use Rattle.rows.specs.Rows.{kind_of, fields_of, row_at};
 ghost use Rattle.rows.specs.Checks.{row_sound, is_condition};
@@ -7,7 +8,7 @@ ghost use Rattle.rows.specs.Checks.{row_sound, is_condition};
 use figures::{ConditionCount, Refusal, RowNumber};
 
 // What the two fields of a row hold, by its kind.
-#[derive(Drop)]
+#[derive(Clone, Copy)]
 pub enum Fields {
     Neither,
     Condition,
@@ -17,14 +18,14 @@ pub enum Fields {
 }
 
 // The lowest row that a search found.
-#[derive(Drop)]
+#[derive(Clone, Copy)]
 pub enum RowFound {
     At(RowNumber),
     Nowhere,
 }
 
 // What asking for an occurrence's row answers.
-#[derive(Drop)]
+#[derive(Clone, Copy)]
 pub enum OccurrenceAnswer {
     Row(RowNumber),
     Refused(Refusal),

@@ -1,4 +1,5 @@
 // The checks of a run behind refusals 10 and 11.
+#![tactic(auto)]
 ghost use Rattle.std.specs.Prelude.{◌≡◌};
 ghost use Rattle.figures.specs.Refusals.{check_says};
 ghost use Rattle.signals.specs.Truth.{lowest_stray};
@@ -8,7 +9,7 @@ use figures::{Check, ConditionCount, Refusal, StepCount, StepNumber, StepPlace};
 use lengths::{Run, RunAnswer};
 
 // The lowest step that a search found.
-#[derive(Drop)]
+#[derive(Clone, Copy)]
 pub enum StepFound {
     At(StepNumber),
     Nowhere,

@@ -1,4 +1,5 @@
 // The operations that write the bench sheet, or the program's whole output, into lent bytes.
+#![tactic(auto)]
 ghost use Rattle.std.specs.Prelude.{◌≡◌, ◌+◌, ◌*◌, ◌≤◌, ◌<◌, length};
 ghost use Rattle.bench.specs.Longest.{sheet_most};
 ghost use Rattle.lines.specs.Lines.{Put};
@@ -12,7 +13,7 @@ use limits::{Suite, SuiteAnswer};
 
 // The most bytes of a sheet, line by line: the longest `suite` line, the longest block of each requirement, the longest `cond` line
 // of each condition, the longest `total` line.
-#[derive(Drop)]
+#[derive(Clone, Copy)]
 pub struct Longest(pub usize);
 
 impl Longest {
@@ -72,7 +73,7 @@ pub fn page(file: &[u8], out: &mut [u8]) -> Output
     if out.len() < count {
         return Output::Refused(Refusal::ShortOutput);
     }
-    bytes::copy(&text[..count], out);
+    out[..count].copy_from_slice(&text[..count]);
     Output::Written(end)
 }
 

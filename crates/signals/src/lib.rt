@@ -1,4 +1,5 @@
 // One row at one step: the bits of a step's word, and a row's value from the values below it and after it.
+#![tactic(auto)]
 ghost use Rattle.std.specs.Prelude.{◌≡◌, ◌<◌};
 ghost use Rattle.rows.specs.Rows.{kind_of};
 ghost use Rattle.signals.specs.Truth.{bit, word_sound};
@@ -8,14 +9,14 @@ use figures::{ConditionCount, ConditionNumber, RowNumber};
 use limits::Suite;
 
 // Which row, if any, reads a sequence of its own in place of its condition.
-#[derive(Drop)]
+#[derive(Clone, Copy)]
 pub enum Flip {
     Nowhere,
     At(RowNumber),
 }
 
 // What the condition rows read at a step: its word, and at one row, if any, a value of its own.
-#[derive(Drop)]
+#[derive(Clone, Copy)]
 pub enum Reads {
     Word(u32),
     Flipped(u32, RowNumber, bool),

@@ -17,7 +17,7 @@ use Rattle.figures.specs.declared.Refusal.TheVariants.{FileBytes, Form, Counts, 
 use Rattle.figures.specs.Refusals.{Outcome, printed_place, ◌then◌}
 use Rattle.figures.specs.Refusals.Outcome.{refused, gives}
 use Rattle.limits.specs.Limits.{within, file_of, least_bytes, most_bytes, most_conditions, most_runs}
-use Rattle.laws.proofs.Given.{Beyond, beyond-means, over-means, not-and, either-iff, refused-when, given-1 as bytes_refused}
+use Rattle.laws.proofs.Given.{Beyond, beyond_means, over_means, not_and, either_iff, refused_when, given_1 as bytes_refused}
 use Rattle.laws.proofs.Lowest.{Lowest}
 use Rattle.laws.proofs.Order.{Numbered, test_numbered, lowest_numbered, lowest_refused}
 use Rattle.laws.proofs.Passed.{Within}
@@ -133,7 +133,7 @@ module _ (form : Layout) (range : Range) (file : List ℕ) where
   -- 2
   pub contents_2 : (contents_of_file form range file ≡ refused 2 place.None) ↔ (SizeRight file × (FormRight form file → ⊥))
   contents_2 =
-      past_1 (omega arith) (stop_at _ from_3 numbers_3 (Iff.trans (refused-when tt Form _) (Iff.not (eqb-true _ _, eq-eqb _ _))))
+      past_1 (omega arith) (stop_at _ from_3 numbers_3 (Iff.trans (refused_when tt Form _) (Iff.not (eqb-true _ _, eq-eqb _ _))))
 
   -- 3
   pub contents_3 :
@@ -142,10 +142,10 @@ module _ (form : Layout) (range : Range) (file : List ℕ) where
   contents_3 =
       past_2 (omega arith)
       (stop_at _ from_4 numbers_4
-      (Iff.trans (refused-when tt Counts _)
-      (Iff.trans (not-and _ _)
-      (either-iff (beyond-means 1 most_conditions _)
-      (Iff.trans (not-and _ _) (either-iff (beyond-means range.least range.most _) (beyond-means 1 most_runs _)))))))
+      (Iff.trans (refused_when tt Counts _)
+      (Iff.trans (not_and _ _)
+      (either_iff (beyond_means 1 most_conditions _)
+      (Iff.trans (not_and _ _) (either_iff (beyond_means range.least range.most _) (beyond_means 1 most_runs _)))))))
 
   -- 4
   pub contents_4 :
@@ -153,7 +153,7 @@ module _ (form : Layout) (range : Range) (file : List ℕ) where
       ↔ (SizeRight file × (FormRight form file × (CountsRight range file × (length file < contents_end form file))))
   contents_4 =
       past_3 (omega arith)
-      (stop_at _ from_5 numbers_5 (Iff.trans (refused-when tt ContentsCut _) (over-means (contents_end form file) (length file))))
+      (stop_at _ from_5 numbers_5 (Iff.trans (refused_when tt ContentsCut _) (over_means (contents_end form file) (length file))))
 
   -- 5, at the byte where the entry starts
   pub contents_5 :
@@ -185,4 +185,4 @@ module _ (form : Layout) (range : Range) (file : List ℕ) where
       past_4 (omega arith)
       (past_it _ from_6 entries_5 (omega arith) (entries_pass form file)
       (stop_at _ (gives (counts_of file)) {most = 6} (refuses_gives _ _)
-      (Iff.trans (refused-when tt FileEnd _) (Iff.not (eqb-true _ _, eq-eqb _ _)))))
+      (Iff.trans (refused_when tt FileEnd _) (Iff.not (eqb-true _ _, eq-eqb _ _)))))

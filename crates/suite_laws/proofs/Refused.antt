@@ -12,7 +12,7 @@ use Rattle.figures.specs.declared.Refusal.{Refusal}
 use Rattle.figures.specs.Refusals.{Outcome, refusal, ◌then◌}
 use Rattle.figures.specs.Refusals.Outcome.{refused, gives}
 use Rattle.figures.specs.Numbers.{lowest, refused_at}
-use Rattle.laws.proofs.Given.{not-both}
+use Rattle.laws.proofs.Given.{not_both}
 use Rattle.laws.proofs.Lowest.{Lowest, lowest_some, lowest_is}
 use Rattle.laws.proofs.Order.{Passes, Numbered, same_number, skip, stop}
 use Rattle.laws.proofs.Passed.{Within}
@@ -22,7 +22,7 @@ abbrev pub Refuses : {A : Type 0} → (ℕ → Type 0) → Outcome A → Type 0
 Refuses P o = (n : ℕ) (p : Place) → o ≡ refused n p → P n
 
 pub refuses_gives : {A : Type 0} (P : ℕ → Type 0) (a : A) → Refuses P (gives a)
-refuses_gives P a n p e = not-both e refl
+refuses_gives P a n p e = not_both e refl
 
 pub refuses_then :
     {A B : Type 0} (P : ℕ → Type 0) (x : Outcome A) (f : A → Outcome B) → Refuses P x → ((a : A) → Refuses P (f a)) →
@@ -61,5 +61,5 @@ lowest_at at n place is m f p = (
     same_place e = cc
 
     go : (l : Option ℕ) → lowest m 0 f ≡ l → refused_at at l ≡ refused n p → (k : ℕ) × ((p ≡ place k) × Lowest f m 0 k)
-    go none q e = not-both e refl
+    go none q e = not_both e refl
     go (some k) q e = (k, (same_place (sym (is k) ∙ e), lowest_is m 0 f k q))

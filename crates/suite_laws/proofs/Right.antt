@@ -15,7 +15,7 @@ use Rattle.figures.specs.declared.Refusal.TheVariants.{FileBytes, Form, Counts, 
 use Rattle.figures.specs.Refusals.{Outcome}
 use Rattle.figures.specs.Refusals.Outcome.{gives}
 use Rattle.limits.specs.Limits.{file_of, least_bytes, most_bytes, most_conditions, most_runs}
-use Rattle.laws.proofs.Given.{within-means}
+use Rattle.laws.proofs.Given.{within_means}
 use Rattle.laws.proofs.Order.{Passes, passes, passes_by, both_pass, test_passes, lowest_passes}
 use Rattle.laws.proofs.Passed.{Within}
 use Rattle.layout.specs.Layout.{Layout, form_in, conditions_in, requirements_in, runs_in, items_in, contents_end, start_in, count_in, most_of, must_begin, entry_right}
@@ -60,7 +60,7 @@ pub record FileRight (form : Layout) (file : List ℕ) : Type 0 where
 module _ (form : Layout) (file : List ℕ) where
   pub size_passes : Passes (file_of (length file)) ↔ Within least_bytes most_bytes (length file)
   unfolding file_of
-  size_passes = Iff.trans (test_passes tt FileBytes _) (within-means least_bytes most_bytes (length file))
+  size_passes = Iff.trans (test_passes tt FileBytes _) (within_means least_bytes most_bytes (length file))
 
   pub form_passes : Passes (form_checked form file) ↔ (form_in file ≡ form.form)
   form_passes = Iff.trans (test_passes tt Form _) (eqb-true _ _, eq-eqb _ _)
@@ -72,7 +72,7 @@ module _ (form : Layout) (file : List ℕ) where
   end_passes = Iff.trans (test_passes tt FileEnd _) (eqb-true _ _, eq-eqb _ _)
 
   entry_passes : (k : ℕ) → So (entry_right form file k) ↔ EntryRight form file k
-  entry_passes k = Iff.trans (and-eq-true_iff _ _) (Iff.and (eqb-true _ _, eq-eqb _ _) (within-means 1 _ _))
+  entry_passes k = Iff.trans (and-eq-true_iff _ _) (Iff.and (eqb-true _ _, eq-eqb _ _) (within_means 1 _ _))
 
   pub entries_pass : Passes (entries_checked form file) ↔ ((k : ℕ) → k < items_in file → EntryRight form file k)
   entries_pass =
@@ -86,8 +86,8 @@ module _ (form : Layout) (file : List ℕ) where
     counts_pass =
         Iff.trans (test_passes tt Counts _)
         (Iff.trans (and-eq-true_iff _ _)
-        (Iff.and (within-means 1 most_conditions _)
-        (Iff.trans (and-eq-true_iff _ _) (Iff.and (within-means range.least range.most _) (within-means 1 most_runs _)))))
+        (Iff.and (within_means 1 most_conditions _)
+        (Iff.trans (and-eq-true_iff _ _) (Iff.and (within_means range.least range.most _) (within_means 1 most_runs _)))))
 
     -- 1 to 6 in order; what is given are the counts
     in_order :

@@ -9,7 +9,7 @@ use native.Mathlib.Decide.{ℕ_discrete}
 use Rattle.figures.specs.declared.Place.{Place}
 use Rattle.figures.specs.Refusals.{Outcome, ◌then◌}
 use Rattle.figures.specs.Refusals.Outcome.{refused, gives}
-use Rattle.laws.proofs.Given.{not-both}
+use Rattle.laws.proofs.Given.{not_both}
 use Rattle.laws.proofs.Order.{Passes}
 use Rattle.layout.specs.Checks.{in_turn}
 use Rattle.suite_laws.proofs.Right.{in_turn_passes}
@@ -18,8 +18,8 @@ use Rattle.suite_laws.proofs.Right.{in_turn_passes}
 refused_either :
     {A B : Type 0} (x : Outcome A) (y : Outcome B) (n : ℕ) (p : Place) →
     ((x then λ _. y) ≡ refused n p) ↔ ((x ≡ refused n p) ⊎ (Passes x × (y ≡ refused n p)))
-refused_either (refused k q) y n p = (λ e. inl (cc), ⊎_elim (λ e. cc) (λ h. not-both refl h.0.1))
-refused_either (gives a) y n p = (λ e. inr ((a, refl), e), ⊎_elim (λ e. not-both e refl) (λ h. h.1))
+refused_either (refused k q) y n p = (λ e. inl (cc), ⊎_elim (λ e. cc) (λ h. not_both refl h.0.1))
+refused_either (gives a) y n p = (λ e. inr ((a, refl), e), ⊎_elim (λ e. not_both e refl) (λ h. h.1))
 
 -- of the m checks from i on, number k refuses so, and each earlier one passes
 abbrev pub FirstRefused : ℕ → ℕ → (ℕ → Outcome (Unit {0})) → ℕ → Place → Type 0
@@ -30,7 +30,7 @@ pub turn_refused :
     (m i n : ℕ) (p : Place) (f : ℕ → Outcome (Unit {0})) →
     (in_turn m i f ≡ refused n p) ↔ FirstRefused m i f n p
 unfolding in_turn
-turn_refused zero i n p f = (λ e. not-both e refl, λ h. let (k, (from, (inside, _))) = h in absurd (omega arith))
+turn_refused zero i n p f = (λ e. not_both e refl, λ h. let (k, (from, (inside, _))) = h in absurd (omega arith))
 turn_refused (suc m) i n p f =
     let later = turn_refused m (suc i) n p f in
     Iff.trans (refused_either (f i) (in_turn m (suc i) f) n p) (

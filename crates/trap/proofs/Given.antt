@@ -16,13 +16,13 @@ use Rattle.figures.specs.declared.Refusal.TheVariants.{TrapRows}
 use Rattle.figures.specs.Refusals.{Outcome, refusal, ◌then◌}
 use Rattle.figures.specs.Refusals.Outcome.{refused, gives}
 use Rattle.lengths.specs.Lengths.{row_bytes, most_table_rows}
-use Rattle.laws.proofs.Given.{refused-when, over-means}
+use Rattle.laws.proofs.Given.{refused_when, over_means}
 use Rattle.laws.proofs.Order.{Passes, Numbered, Never, instead, numbered_never, never_by, never_then, skip, skip_by, skip_never, stop, stop_by, passes, passes_by, test_numbered, test_passes, test_then, then_assoc}
 use Rattle.laws.proofs.Unique.{unique, read_back, read_refusal}
 use Rattle.rows.specs.Rows.{Row}
 use Rattle.codec.specs.Codec.{rows_of, encode_of}
 use Rattle.rows.specs.Checks.{requirement_sized, requirement_rows, occurrences, occurrence_of}
-use Rattle.row_laws.proofs.Given.{encode-numbered, given-14 as encode_refused, given-written as encode_gives}
+use Rattle.row_laws.proofs.Given.{encode_numbered, given_14 as encode_refused, given_written as encode_gives}
 use Rattle.row_laws.proofs.Occurring.{occurrence_numbered, occurrence_gives, given_12 as no_occurrence}
 use Rattle.row_laws.proofs.Taken.{taken, Taken, taken_passes, never_taken}
 use Rattle.trap.specs.declared.Trapped.{Trapped}
@@ -63,14 +63,14 @@ module _ (rows : List Row) (room p : ℕ) where
 
   never_for : (n : ℕ) → n < 13 → Never n (trap_for rows room p)
   never_for n l q e =
-      never_then _ n few few_13 (λ e. omega arith) (numbered_never n _ (encode-numbered table room) (λ e. omega arith)) q
+      never_then _ n few few_13 (λ e. omega arith) (numbered_never n _ (encode_numbered table room) (λ e. omega arith)) q
       (sym in_order ∙ e)
 
   for_13 : (trap_for rows room p ≡ refused 13 place.None) ↔ (most_table_rows < length table)
   for_13 =
       Iff.trans (instead in_order)
-      (Iff.trans (stop _ 13 few _ (numbered_never 13 _ (encode-numbered table room) (λ e. omega arith)))
-      (Iff.trans (refused-when tt TrapRows small) (over-means (length table) most_table_rows)))
+      (Iff.trans (stop _ 13 few _ (numbered_never 13 _ (encode_numbered table room) (λ e. omega arith)))
+      (Iff.trans (refused_when tt TrapRows small) (over_means (length table) most_table_rows)))
 
   for_14 : (trap_for rows room p ≡ refused 14 place.None) ↔ ((length table ≤ most_table_rows) × (room < row_bytes * length table))
   for_14 =
@@ -137,17 +137,17 @@ module _ (requirement : List ℕ) (conditions occurrence room : ℕ) where
   pub given_13 : (answer ≡ refused 13 place.None) ↔ (Taken conditions requirement × (There × (most_table_rows < length trap)))
   given_13 = past_occurrence 13 _ (omega arith) (for_13 rows room _)
 
-  pub given-14 :
+  pub given_14 :
       (answer ≡ refused 14 place.None)
       ↔ (Taken conditions requirement × (There × ((length trap ≤ most_table_rows) × (room < row_bytes * length trap))))
-  given-14 = past_occurrence 14 _ (omega arith) (for_14 rows room _)
+  given_14 = past_occurrence 14 _ (omega arith) (for_14 rows room _)
 
   -- and the bytes written where nothing is refused
-  pub given-written :
+  pub given_written :
       (n : ℕ) →
       (answer ≡ gives n)
       ↔ (Taken conditions requirement × (There × ((length trap ≤ most_table_rows) × ((row_bytes * length trap ≤ room) × (row_bytes * length trap ≡ n)))))
-  given-written n =
+  given_written n =
       Iff.trans along
       (Iff.trans (passes _ after n)
       (Iff.and (taken_passes conditions requirement)

@@ -1,4 +1,5 @@
 // The trap formula of an occurrence: the way up to the last row, and the operation `trap`.
+#![tactic(auto)]
 ghost use Rattle.std.specs.Prelude.{◌≡◌, ◌++◌, ◌+◌, ◌*◌, ◌≤◌, ◌<◌, length};
 ghost use Rattle.lengths.specs.Lengths.{most_requirement_rows};
 ghost use Rattle.codec.specs.Codec.{bytes_of};
@@ -11,7 +12,7 @@ use lengths::Table;
 use rows::OccurrenceAnswer;
 
 // What the operation `trap` answers.
-#[derive(Drop)]
+#[derive(Clone, Copy)]
 pub enum Trapped {
     Written(ByteCount),
     Refused(Refusal),

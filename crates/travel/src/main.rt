@@ -1,5 +1,9 @@
 // The program `travel`: an encoder log on standard input; on standard output the travel at each step, or the one line of the first refusal.
-use libc::{STDIN_FILENO, STDOUT_FILENO};
+#![tactic(auto)]
+// The numbers of the files that a program is started with: standard input and standard output.
+const STDIN_FILENO: i32 = 0;
+
+const STDOUT_FILENO: i32 = 1;
 
 fn main() {
     // Many more bytes than a log may have, so that a longer input is refused by 10.

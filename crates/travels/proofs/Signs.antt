@@ -46,7 +46,7 @@ module _ (t : ℤ) (few : nat_abs t ≤ half_turn * most_steps) where
   read = to_z w32 (of_z w32 t)
 
   back : read ≡ t
-  back = to_z-of_z (record { sfits = omega (arith, mag_size t) })
+  back = to_z-of_z {w = w32} (record { sfits = omega (arith, mag_size t) })
 
   tested : {b : Bool} → Tested t b → lt_z t (pos 0) ≡ b
   tested e = ap (λ z. lt_z z (pos 0)) (sym back) ∙ e
@@ -65,7 +65,7 @@ module _ (t : ℤ) (few : nat_abs t ≤ half_turn * most_steps) where
     opposite_fits = subst (SFits w32) (sym turned) (record { sfits = omega arith })
 
     opposite_read : to_z w32 (of_z w32 (pos 0 -ℤ read)) ≡ pos (nat_abs t)
-    opposite_read = to_z-of_z opposite_fits ∙ turned
+    opposite_read = to_z-of_z {w = w32} opposite_fits ∙ turned
 
     pub opposite_whole : Whole (to_z w32 (of_z w32 (pos 0 -ℤ read)))
     opposite_whole = subst Whole (sym opposite_read) whole

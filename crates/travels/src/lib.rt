@@ -1,4 +1,5 @@
 // The travel of a log as text: a line for each step, or the line of the log's refusal, put into lent bytes.
+#![tactic(auto)]
 ghost use Rattle.std.specs.Prelude.{◌≡◌, ◌+◌, ◌*◌, ◌≤◌, ◌<◌, nat_abs, length};
 ghost use Rattle.lengths.specs.Lengths.{most_steps};
 ghost use Rattle.figures.specs.Outputs.{output_says, lent_after};
@@ -16,7 +17,7 @@ use lines::Field;
 use logs::LogAnswer;
 
 // The most bytes of a travel's line, which is a sign, nine digits and a line feed, and of a page, which has a line for each step.
-#[derive(Drop)]
+#[derive(Clone, Copy)]
 pub struct Longest(pub usize);
 
 impl Longest {
@@ -104,6 +105,6 @@ pub fn page(log: &[u8], out: &mut [u8]) -> Output
     if out.len() < count {
         return Output::Refused(Refusal::ShortOutput);
     }
-    bytes::copy(&text[..count], out);
+    out[..count].copy_from_slice(&text[..count]);
     Output::Written(end)
 }

@@ -4,11 +4,12 @@ use mathlib.Core.List.{List}
 use Prim.Native.Nat.{ℕ, ◌≤◌}
 use native.Mathlib.Omega.{arith}
 use lib.ListN.{length}
+use Rattle.figures.specs.declared.Refusal.TheVariants.{UnsoundRow}
 use Rattle.limits.specs.Limits.{most_conditions}
 use Rattle.lengths.specs.Lengths.{most_table_rows}
 use Rattle.laws.proofs.Order.{Passes, lowest_passes}
-use Rattle.rows.specs.Rows.{Row}
-use Rattle.rows.specs.Checks.{rows_checked}
+use Rattle.rows.specs.Rows.{Row, row_at}
+use Rattle.rows.specs.Checks.{lone_row, row_sound, rows_checked}
 use Rattle.row_laws.proofs.Sound.{Sound, sound_lower, sound_inside}
 use Rattle.signals.specs.Column.{FitIn, Fit}
 
@@ -24,7 +25,7 @@ fit_in width conditions rows h c l =
     }
   where
     sound : Sound conditions rows
-    sound = (lowest_passes _ (length rows) _).0 h
+    sound = (lowest_passes (λ r. UnsoundRow (lone_row r)) (length rows) (λ r. row_sound conditions r (row_at rows r))).0 h
 
 pub fit : (conditions : ℕ) (rows : List Row) → Passes (rows_checked conditions rows) → conditions ≤ most_conditions → length rows ≤ most_table_rows → Fit rows
 fit conditions rows h c = fit_in most_table_rows conditions rows h (omega arith)

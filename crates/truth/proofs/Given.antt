@@ -10,7 +10,7 @@ use native.Mathlib.Omega.{arith}
 use lib.ListN.{length, get_or}
 use Rattle.figures.specs.declared.Place.{Place}
 use Rattle.figures.specs.declared.Place.TheVariants as place
-use Rattle.figures.specs.declared.Refusal.TheVariants.{StrayBit}
+use Rattle.figures.specs.declared.Refusal.TheVariants.{UnsoundRow, StrayBit}
 use Rattle.figures.specs.declared.StepPlace.TheVariants as step_place
 use Rattle.figures.specs.Refusals.{Outcome, ◌then◌, printed_place}
 use Rattle.figures.specs.Refusals.Outcome.{refused, gives}
@@ -18,14 +18,14 @@ use Rattle.limits.specs.declared.Suite.{Suite}
 use Rattle.figures.specs.Numbers.{refused_at}
 use Rattle.limits.specs.Limits.{suite_of, most_conditions}
 use Rattle.lengths.specs.Lengths.{table_of, run_of, most_table_rows, most_steps}
-use Rattle.laws.proofs.Given.{Beyond, WrongLength, given-7 as table_refused, given-10 as run_refused}
+use Rattle.laws.proofs.Given.{Beyond, WrongLength, given_7 as table_refused, given_10 as run_refused}
 use Rattle.laws.proofs.Lowest.{Holds, Lowest}
 use Rattle.laws.proofs.Order.{Numbered, Never, skip, stop, never_then, never_gives, passes, then_assoc, lowest_numbered, lowest_passes, lowest_refused}
 use Rattle.laws.proofs.Passed.{Within, RightLength, lone_passes, lone_refused, suite_numbered, table_numbered, table_passes, run_numbered, run_passes}
 use Rattle.laws.proofs.Unique.{unique, read_back, read_refusal}
 use Rattle.rows.specs.Rows.{row_at}
 use Rattle.codec.specs.Codec.{rows_of}
-use Rattle.rows.specs.Checks.{row_sound, rows_checked}
+use Rattle.rows.specs.Checks.{lone_row, row_sound, rows_checked}
 use Rattle.row_laws.proofs.Sound.{Sound}
 use Rattle.truth.specs.declared.Verdict.{Verdict}
 use Rattle.truth.specs.declared.Verdict.TheVariants as verdict
@@ -90,10 +90,10 @@ module _ (table run : List ℕ) (conditions : ℕ) where
 
   -- the number of each
   rows_8 : Numbered rows 8
-  rows_8 = lowest_numbered _ _ _ 8 (λ k. refl)
+  rows_8 = lowest_numbered (λ x. UnsoundRow (lone_row x)) _ _ 8 (λ k. refl)
 
   words_11 : Numbered words 11
-  words_11 = lowest_numbered _ _ _ 11 (λ k. refl)
+  words_11 = lowest_numbered (λ x. StrayBit (step_place.Lone record {0 = x})) _ _ 11 (λ k. refl)
 
   suite_3 : Numbered suite 3
   suite_3 = suite_numbered conditions 1 1
@@ -131,7 +131,7 @@ module _ (table run : List ℕ) (conditions : ℕ) where
   past_sized {o} {n} p d = Iff.trans (skip o n sized p sized_7 d) (Iff.and (table_passes (length table)) Iff.rfl)
 
   past_rows : {o : Outcome Bool} {n : ℕ} (p : Place) → (8 ≡ n → ⊥) → ((rows then λ _. o) ≡ refused n p) ↔ (AllSound × (o ≡ refused n p))
-  past_rows {o} {n} p d = Iff.trans (skip o n rows p rows_8 d) (Iff.and (lowest_passes _ _ _) Iff.rfl)
+  past_rows {o} {n} p d = Iff.trans (skip o n rows p rows_8 d) (Iff.and (lowest_passes (λ x. UnsoundRow (lone_row x)) _ _) Iff.rfl)
 
   past_steps : {o : Outcome Bool} {n : ℕ} (p : Place) → (10 ≡ n → ⊥) → ((steps then λ _. o) ≡ refused n p) ↔ (RunRight × (o ≡ refused n p))
   past_steps {o} {n} p d = Iff.trans (skip o n steps p steps_10 d) (Iff.and (run_passes (length run)) Iff.rfl)
@@ -153,8 +153,8 @@ module _ (table run : List ℕ) (conditions : ℕ) where
       (stop after_suite 3 suite place.None (never_then after_sized 3 sized sized_7 (λ e. omega arith) (never_8 3 (λ e. omega arith) (λ e. omega arith) (λ e. omega arith))))
       (lone_refused conditions))
 
-  pub given-7 : (truth_says table run conditions ≡ refused 7 place.None) ↔ (ConditionsWithin × WrongLength most_table_rows (length table))
-  given-7 =
+  pub given_7 : (truth_says table run conditions ≡ refused 7 place.None) ↔ (ConditionsWithin × WrongLength most_table_rows (length table))
+  given_7 =
       Iff.trans along
       (Iff.trans (past_suite place.None (λ e. omega arith))
       (Iff.and Iff.rfl
@@ -171,12 +171,12 @@ module _ (table run : List ℕ) (conditions : ℕ) where
       (Iff.trans (past_sized _ (λ e. omega arith))
       (Iff.and Iff.rfl
       (Iff.trans (stop after_rows 8 rows _ (never_10 8 (λ e. omega arith) (λ e. omega arith)))
-      (lowest_refused _ _ _ 8 (λ k. place.Row (record { 0 = k })) printed_place (λ k. refl) (λ k. refl) r))))))
+      (lowest_refused (λ x. UnsoundRow (lone_row x)) _ _ 8 (λ k. place.Row (record { 0 = k })) printed_place (λ k. refl) (λ k. refl) r))))))
 
-  pub given-10 :
+  pub given_10 :
       (truth_says table run conditions ≡ refused 10 place.None)
       ↔ (ConditionsWithin × (TableRight × (AllSound × Beyond 1 most_steps (length run))))
-  given-10 =
+  given_10 =
       Iff.trans along
       (Iff.trans (past_suite _ (λ e. omega arith))
       (Iff.and Iff.rfl
@@ -201,7 +201,7 @@ module _ (table run : List ℕ) (conditions : ℕ) where
       (Iff.trans (past_steps _ (λ e. omega arith))
       (Iff.and Iff.rfl
       (Iff.trans (stop answer 11 words _ (never_gives 11 _))
-      (lowest_refused _ _ _ 11 (λ k. place.Step (record { 0 = k })) printed_place (λ k. refl) (λ k. refl) i))))))))))
+      (lowest_refused (λ x. StrayBit (step_place.Lone record {0 = x})) _ _ 11 (λ k. place.Step (record { 0 = k })) printed_place (λ k. refl) (λ k. refl) i))))))))))
 
   -- and the verdict where nothing is refused
   pub given_verdict :
@@ -215,7 +215,7 @@ module _ (table run : List ℕ) (conditions : ℕ) where
       (Iff.trans (passes sized _ b)
       (Iff.and (table_passes (length table))
       (Iff.trans (passes rows _ b)
-      (Iff.and (lowest_passes _ _ _)
+      (Iff.and (lowest_passes (λ x. UnsoundRow (lone_row x)) _ _)
       (Iff.trans (passes steps _ b)
       (Iff.and (run_passes (length run))
-      (Iff.trans (passes words _ b) (Iff.and (lowest_passes _ _ _) (λ e. cc, λ e. ap gives e)))))))))))
+      (Iff.trans (passes words _ b) (Iff.and (lowest_passes (λ x. StrayBit (step_place.Lone record {0 = x})) _ _) (λ e. cc, λ e. ap gives e)))))))))))

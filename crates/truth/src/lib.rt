@@ -1,4 +1,5 @@
 // The operation `truth`: the verdict of a formula table over a run.
+#![tactic(auto)]
 ghost use Rattle.std.specs.Prelude.{◌≡◌, ◌≤◌, ◌<◌, length};
 ghost use Rattle.lengths.specs.Lengths.{most_table_rows};
 ghost use Rattle.limits.specs.Limits.{most_conditions};
@@ -9,7 +10,7 @@ use lengths::Table;
 use signals::Flip;
 
 // What the operation `truth` answers.
-#[derive(Drop)]
+#[derive(Clone, Copy)]
 pub enum Verdict {
     Holds,
     Fails,

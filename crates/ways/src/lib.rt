@@ -1,4 +1,5 @@
 // The way from an occurrence up to the last row, and the rows that it adds.
+#![tactic(auto)]
 ghost use Rattle.std.specs.Prelude.{◌≡◌, cond, ◌++◌, ◌+◌, ◌≤◌, ◌<◌, length, take, drop};
 ghost use Rattle.lengths.specs.Lengths.{most_table_rows, most_requirement_rows};
 ghost use Rattle.rows.specs.Rows.{named};
@@ -8,7 +9,7 @@ ghost use Rattle.ways.specs.Climbing.{last_added, stood_up, added_by, added_afte
 use rows::Fields;
 
 // The way so far: the row in hand, the row that is its trap, and how many rows were added.
-#[derive(Drop)]
+#[derive(Clone, Copy)]
 pub struct Stand {
     pub at: u16,
     pub trap: u16,

@@ -1,4 +1,5 @@
 // What an operation answered, as the one C struct that every exported function returns.
+#![tactic(auto)]
 ghost use Rattle.std.specs.Prelude.{◌≡◌};
 ghost use Rattle.figures.specs.Refusals.{number_of, place_of};
 ghost use Rattle.figures.specs.Outputs.{output_says};
@@ -17,7 +18,7 @@ use truth::Verdict;
 
 // Which kind of answer it is. An answer that nobody filled in reads as a refusal, with a number that none has.
 #[repr(C)]
-#[derive(Drop)]
+#[derive(Clone, Copy)]
 pub struct AnswerKind(pub u32);
 
 impl AnswerKind {
@@ -38,7 +39,7 @@ impl AnswerKind {
 
 // What a printed place is a number of.
 #[repr(C)]
-#[derive(Drop)]
+#[derive(Clone, Copy)]
 pub struct PlaceUnit(pub u32);
 
 impl PlaceUnit {
@@ -53,7 +54,7 @@ impl PlaceUnit {
 
 // What every exported function returns: a field that an answer does not have is 0.
 #[repr(C)]
-#[derive(Drop)]
+#[derive(Clone, Copy)]
 pub struct Answer {
     pub kind: AnswerKind,
     pub unit: PlaceUnit,
