@@ -1,5 +1,7 @@
 -- A file that passes its checks is ready: the engine can take its requirements and its runs.
 -- Assumes nothing.
+use Rattle.rows.specs.Checks.{lone_row}
+use Rattle.figures.specs.declared.Refusal.TheVariants.{UnsoundRow, NotRequirement}
 use mathlib.Core.Path.{◌≡◌, sym, ◌∙◌, ap}
 use mathlib.Core.List.{List}
 use Prim.Native.Nat.{ℕ, ◌+◌, ◌*◌, ◌<◌}
@@ -53,7 +55,7 @@ module _ (file : List ℕ) (right : FileRight form1 file) where
       let counted = rows_counted q l in
       record {
         fit = fit_in most_requirement_rows conditions rows passed.0 contents.conditions.1 counted.1;
-        is = requirement rows conditions ((lowest_passes _ (length rows) _).0 passed.0) ((lowest_passes _ (length rows) _).0 passed.1);
+        is = requirement rows conditions ((lowest_passes (λ x. UnsoundRow (lone_row x)) (length rows) _).0 passed.0) ((lowest_passes (λ x. NotRequirement (lone_row x)) (length rows) _).0 passed.1);
         some_row = counted.0;
         few_rows = counted.1;
       }

@@ -1,7 +1,7 @@
 -- A block, one row more: where the lines of the lower rows are true and the row's own is written, that is true too.
 -- Assumes nothing.
 use mathlib.Core.Path.{◌≡◌, sym, ◌∙◌, subst}
-use mathlib.Core.Bool.{Bool, true, ◌&&◌, and-true, and-false}
+use mathlib.Core.Bool.{Bool, ◌&&◌, and-true, and-false}
 use mathlib.Core.List.{List}
 use Prim.Native.Nat.{ℕ, zero, suc, ◌+◌, ◌-◌, ◌<◌, ◌≤◌}
 use native.Mathlib.Omega.{arith}

@@ -1,5 +1,6 @@
 -- What passed checks give: a pair of occurrence and run, at the occurrence's row.
 -- Assumes nothing.
+use Rattle.figures.specs.declared.Refusal.TheVariants.{UnsoundRow, NotRequirement}
 use mathlib.Core.Path.{◌≡◌}
 use mathlib.Core.Bool.{So}
 use mathlib.Core.List.{List}
@@ -12,7 +13,7 @@ use Rattle.lengths.specs.Lengths.{most_requirement_rows, most_steps}
 use Rattle.laws.proofs.Order.{Passes, both_pass, lowest_passes}
 use Rattle.laws.proofs.Passed.{Within, run_passes}
 use Rattle.rows.specs.Rows.{Row}
-use Rattle.rows.specs.Checks.{condition_at, occurrence_of, rows_checked, requirement_checked, requirement_rows}
+use Rattle.rows.specs.Checks.{lone_row, condition_at, occurrence_of, rows_checked, requirement_checked, requirement_rows}
 use Rattle.row_laws.proofs.Occurring.{occurrence_condition}
 use Rattle.row_laws.proofs.Sound.{requirement}
 use Rattle.run_checks.specs.RunChecks.{run_checked}
@@ -27,7 +28,7 @@ module _ (rows : List Row) (k : ℕ) {p : ℕ} (there : gives p ≡ occurrence_o
   accepted run conditions c l rows_pass run_pass =
       record {
         fit = fit conditions rows passed.0 c (omega arith);
-        is = requirement rows conditions ((lowest_passes _ (length rows) _).0 passed.0) ((lowest_passes _ (length rows) _).0 passed.1);
+        is = requirement rows conditions ((lowest_passes (λ x. UnsoundRow (lone_row x)) (length rows) _).0 passed.0) ((lowest_passes (λ x. NotRequirement (lone_row x)) (length rows) _).0 passed.1);
         inside = condition.0;
         condition = condition.1;
         some_step = steps.0;

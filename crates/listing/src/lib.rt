@@ -35,7 +35,7 @@ fn list_rows(rows: &[[u16; 3]], theirs: &[u8], runs: RunCount, out: &mut [u8]) -
     let mut pairs = [0u8; Pairs::BYTES];
     let end = pairs::list_pairs(rows, &marks, runs, &mut pairs, ByteCount(0));
     let count = end.0;
-    bytes::copy(&pairs[..count], out);
+    out[..count].copy_from_slice(&pairs[..count]);
     Output::Written(end)
 }
 

@@ -1,5 +1,7 @@
 -- A requirement's rows: what passes in a file passes alone, and the rows as bytes, written and read back.
 -- Assumes nothing.
+use Rattle.figures.specs.declared.RowPlace.TheVariants.{File}
+use Rattle.figures.specs.declared.Refusal.TheVariants.{UnsoundRow, NotRequirement}
 use mathlib.Core.Path.{◌≡◌, refl, ap, subst}
 use mathlib.Core.Logic.Iff
 use mathlib.Core.Logic.{◌↔◌}
@@ -16,13 +18,13 @@ use Rattle.figures.specs.Numbers.{refused_at}
 use Rattle.laws.proofs.Order.{Passes, both_pass, lowest_passes}
 use Rattle.rows.specs.Rows.{Row, Kind, kind_number, first, second, row_at, fields_of}
 use Rattle.codec.specs.Codec.{rows_of, bytes_of_row, bytes_of}
-use Rattle.rows.specs.Checks.{fields_sound, row_sound, lowest_unsound, lowest_unrequired, requirement_rows}
+use Rattle.rows.specs.Checks.{lone_row, fields_sound, row_sound, lowest_unsound, lowest_unrequired, requirement_rows}
 use Rattle.rows.proofs.KindNumbers.{unknown}
 use Rattle.row_laws.proofs.RoundTrip.{ByteRow, rows_back}
 use Rattle.row_laws.proofs.Sound.{Sound, Required, sound_inside}
 use Rattle.layout.specs.Layout.{form1}
 use Rattle.layout.specs.Written.{rows_in, RequirementSound}
-use Rattle.layout.specs.Checks.{requirement_from}
+use Rattle.layout.specs.Checks.{offset_of, requirement_from}
 
 -- the writer's bytes of rows are those of the codec
 pub rows_coded : (rows : List Row) → rows_in form1 rows ≡ bytes_of rows
@@ -38,7 +40,7 @@ module _ (conditions : ℕ) (rows : List Row) where
   rows_pass unsound unrequired = Iff.trans (both_pass _ _) (Iff.and (lowest_passes _ _ _) (lowest_passes _ _ _))
 
   pub passes_in_file : (from size : ℕ) → Passes (requirement_from conditions from size rows) ↔ Passes (requirement_rows conditions rows)
-  passes_in_file from size = Iff.trans (rows_pass _ _) (Iff.symm (rows_pass _ _))
+  passes_in_file from size = Iff.trans (rows_pass (λ x. UnsoundRow (File record {0 = offset_of from size x})) (λ x. NotRequirement (File record {0 = offset_of from size x}))) (Iff.symm (rows_pass (λ x. UnsoundRow (lone_row x)) (λ x. NotRequirement (lone_row x))))
 
 -- a sound row is of a known kind
 known_kind : (conditions r : ℕ) (row : Row) → So (row_sound conditions r row) → kind_number row < 13
@@ -59,7 +61,7 @@ three_small row three a b c (suc (suc (suc i))) l = absurd (omega arith)
 
 module _ (conditions : ℕ) (few : conditions ≤ most_conditions) (rows : List Row) (right : RequirementSound form1 conditions rows) where
   sound_rows : Sound conditions rows
-  sound_rows = ((rows_pass conditions rows _ _).0 (tt, right.passes)).0
+  sound_rows = ((rows_pass conditions rows (λ x. UnsoundRow (lone_row x)) (λ x. NotRequirement (lone_row x))).0 (tt, right.passes)).0
 
   byte_row : (r : ℕ) → r < length rows → ByteRow (row_at rows r)
   byte_row r l =

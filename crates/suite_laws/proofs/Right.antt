@@ -11,14 +11,14 @@ use native.Mathlib.Decide.{ℕ_discrete}
 use borrow.Author.Tests.{leb-true, le-leb, eqb-true, eq-eqb}
 use lib.ListN.{length}
 use Rattle.limits.specs.declared.Suite.{Suite}
-use Rattle.figures.specs.declared.Refusal.TheVariants.{FileBytes, Form, Counts, ContentsCut, FileEnd}
+use Rattle.figures.specs.declared.Refusal.TheVariants.{Entry, FileBytes, Form, Counts, ContentsCut, FileEnd}
 use Rattle.figures.specs.Refusals.{Outcome}
 use Rattle.figures.specs.Refusals.Outcome.{gives}
 use Rattle.limits.specs.Limits.{file_of, least_bytes, most_bytes, most_conditions, most_runs}
 use Rattle.laws.proofs.Given.{within_means}
 use Rattle.laws.proofs.Order.{Passes, passes, passes_by, both_pass, test_passes, lowest_passes}
 use Rattle.laws.proofs.Passed.{Within}
-use Rattle.layout.specs.Layout.{Layout, form_in, conditions_in, requirements_in, runs_in, items_in, contents_end, start_in, count_in, most_of, must_begin, entry_right}
+use Rattle.layout.specs.Layout.{entry_at, Layout, form_in, conditions_in, requirements_in, runs_in, items_in, contents_end, start_in, count_in, most_of, must_begin, entry_right}
 use Rattle.layout.specs.Checks.{Range, of_suite, form_checked, counts_checked, contents_checked, entries_checked, end_checked, counts_of, contents_of_file, requirement_of_file, run_of_file, in_turn, requirements_of_file, runs_of_file, file_says}
 
 -- checks in turn pass where each does
@@ -76,7 +76,7 @@ module _ (form : Layout) (file : List ℕ) where
 
   pub entries_pass : Passes (entries_checked form file) ↔ ((k : ℕ) → k < items_in file → EntryRight form file k)
   entries_pass =
-      Iff.trans (lowest_passes _ _ _)
+      Iff.trans (lowest_passes (λ x. Entry record {0 = entry_at form x}) _ _)
       (λ h k l. (entry_passes k).0 (h k (omega arith) l), λ h k _ l. (entry_passes k).1 (h k l))
 
   module _ (range : Range) where

@@ -1,0 +1,19 @@
+-- `conditions::noted_in` meets its contract: what is found is whether one of the rows passed is noted and reads the condition.
+use mathlib.Core.Bool.{◌&&◌}
+use Prim.Native.Nat.{◌-◌}
+use lib.ListN.{length}
+use Rattle.layout.specs.Layout.{form1}
+use Rattle.layout.specs.Checks.{requirement_rows_in}
+use Rattle.bench.specs.Coverage.{reads_condition}
+use Rattle.bench.specs.Tables.{noted}
+use Rattle.bench.specs.Files.{bench_of}
+use Rattle.bench.proofs.Loops.{Found}
+use Rattle.conditions.proofs.noted_in.Given as goal
+
+abbrev pub invariant-loop-p : goal.invariant-loop-p
+invariant-loop-p l =
+    Found (λ k. reads_condition (bench_of l.file l.file) l.c.0 l.q.0 k && noted l.notes l.q.0 k)
+    (length (requirement_rows_in form1 l.file l.q.0)) l.p l.found
+
+abbrev pub decreases-loop-p : goal.decreases-loop-p
+decreases-loop-p l = l.many - l.p

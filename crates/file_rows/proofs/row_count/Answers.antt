@@ -1,0 +1,9 @@
+-- `file_rows::row_count` meets its contract: the bytes lent are the requirement's, three a row.
+use native.Mathlib.Omega.{arith}
+use Rattle.file_rows.proofs.Bodies.{rows_of_lem}
+use Rattle.file_rows.proofs.row_count.Goals as goal
+
+pub returns : goal.returns
+returns c =
+    let many = rows_of_lem c.requirement_bytes-body.ensures in
+    (many, omega (arith, many, (c.requires.0.rows c.args.q.0 c.requires.1).few_rows))
