@@ -1,15 +1,10 @@
 -- `composing::put_blocks` meets its contract: the blocks of the requirements passed stand in order, and their notes are right.
 use native.Mathlib.Omega.{arith}
-use mathlib.Core.Path.{◌≡◌, refl, ◌∙◌}
-use Prim.Native.Nat.{◌-◌}
-use lib.ListN.{length}
+use mathlib.Core.Path.{refl, ◌∙◌}
 use Rattle.bench.specs.Files.{bench_of}
-use Rattle.bench.specs.Sheet.{block_of}
-use Rattle.bench.specs.Tables.{SuiteNoted}
-use Rattle.lines.proofs.InOrder.{Passed, passed_none, passed_room, passed_more, passed_all}
+use Rattle.lines.proofs.InOrder.{passed_none, passed_room, passed_more, passed_all}
 use Rattle.composing.proofs.Noted.{suite_more}
 use Rattle.lines.proofs.Written.{and_also}
-use Rattle.std.proofs.Common.{rules}
 use Rattle.composing.proofs.put_blocks.Goals as goal
 
 pub loop-q-init : goal.loop-q-init
@@ -23,12 +18,11 @@ put_block-end-requires c =
 
 pub loop-q-preserved : goal.loop-q-preserved
 loop-q-preserved c =
-    let done = (c.put_block-end.ensures.result_value, (c.put_block-end.ensures.put, c.put_block-end.ensures.requirement_noted)) in
     let inv = c.loop-q.invariant in
     (
-      passed_more _ 26646 inv.0 c.loop-q-test.true (done.0, done.1.0),
-      done.1.1.same_length ∙ inv.1,
-      suite_more (bench_of c.args.ours.now c.args.theirs.now) (λ r l. (c.requires.0.rows r (omega arith)).few_rows) inv.2 done.1.1,
+      passed_more _ 26646 inv.0 c.loop-q-test.true (c.put_block-end.ensures.result_value, c.put_block-end.ensures.put),
+      c.put_block-end.ensures.requirement_noted.same_length ∙ inv.1,
+      suite_more (bench_of c.args.ours.now c.args.theirs.now) (λ r l. (c.requires.0.rows r (omega arith)).few_rows) inv.2 c.put_block-end.ensures.requirement_noted,
     )
 
 pub returns : goal.returns

@@ -1,14 +1,11 @@
 -- `composing::put_blocks` meets its contract: the blocks of the requirements passed stand in order, and their notes are right.
-use native.Mathlib.Omega.{arith}
-use mathlib.Core.Path.{◌≡◌, refl, ◌∙◌}
+use mathlib.Core.Path.{◌≡◌}
 use Prim.Native.Nat.{◌-◌}
 use lib.ListN.{length}
 use Rattle.bench.specs.Files.{bench_of}
 use Rattle.bench.specs.Sheet.{block_of}
 use Rattle.bench.specs.Tables.{SuiteNoted}
-use Rattle.lines.proofs.InOrder.{Passed, passed_none, passed_room, passed_more, passed_all}
-use Rattle.composing.proofs.Noted.{suite_more}
-use Rattle.lines.proofs.Written.{and_also}
+use Rattle.lines.proofs.InOrder.{Passed}
 use Rattle.composing.proofs.put_blocks.Given as goal
 
 abbrev pub invariant-loop-q : goal.invariant-loop-q

@@ -14,7 +14,6 @@ use Rattle.bench.specs.Tables.{noted, SuiteNoted}
 use Rattle.bench.proofs.Alike.{order_same}
 use Rattle.lines.proofs.Written.{Text, then_text, same_text, from_start}
 use Rattle.composing.proofs.Noted.{noted_answer, counted, answered}
-use Rattle.std.proofs.Common.{rules}
 use Rattle.composing.proofs.put_sheet.Goals as goal
 
 -- a condition's line by the notes
@@ -65,9 +64,7 @@ all_occurrences-all-requires c =
 pub put_total_line-requires : goal.put_total_line-requires
 put_total_line-requires c =
     let pre = c.requires in
-    let put = (c.put_conds-conds.ensures.result_value, c.put_conds-conds.ensures.put) in
-    let put-before = (c.put_blocks-blocks.ensures.result_value, (c.put_blocks-blocks.ensures.put, c.put_blocks-blocks.ensures.suite_noted)) in
-    let put_first = (c.put_suite_line-head.ensures.result_value, c.put_suite_line-head.ensures.put) in (
+    (
       omega (arith, c.all_noted-some.ensures.1),
       omega (arith, c.all_occurrences-all.ensures.1),
       omega (
@@ -77,20 +74,19 @@ put_total_line-requires c =
         pre.2,
         pre.3,
         pre.5,
-        put.0.1,
-        put.1.same_length,
-        put-before.0.1,
-        put-before.1.0.same_length,
-        put_first.0.1,
-        put_first.1.same_length,
+        c.put_conds-conds.ensures.result_value.1,
+        c.put_conds-conds.ensures.put.same_length,
+        c.put_blocks-blocks.ensures.result_value.1,
+        c.put_blocks-blocks.ensures.put.same_length,
+        c.put_suite_line-head.ensures.result_value.1,
+        c.put_suite_line-head.ensures.put.same_length,
       ),
     )
 
 pub returns : goal.returns
 returns c =
     let pre = c.requires in
-    let put = (c.put_blocks-blocks.ensures.result_value, (c.put_blocks-blocks.ensures.put, c.put_blocks-blocks.ensures.suite_noted)) in
-    let both = whole (bench_of c.args.ours.now c.args.theirs.now) c.put_blocks-blocks.new.notes put.1.1 pre.3 pre.4 pre.2
-    c.all_noted-some.ensures.0 c.all_occurrences-all.ensures.0 (c.put_suite_line-head.ensures.result_value, c.put_suite_line-head.ensures.put) (put.0, put.1.0) (c.put_conds-conds.ensures.result_value, c.put_conds-conds.ensures.put)
+    let both = whole (bench_of c.args.ours.now c.args.theirs.now) c.put_blocks-blocks.new.notes c.put_blocks-blocks.ensures.suite_noted pre.3 pre.4 pre.2
+    c.all_noted-some.ensures.0 c.all_occurrences-all.ensures.0 (c.put_suite_line-head.ensures.result_value, c.put_suite_line-head.ensures.put) (c.put_blocks-blocks.ensures.result_value, c.put_blocks-blocks.ensures.put) (c.put_conds-conds.ensures.result_value, c.put_conds-conds.ensures.put)
     (c.put_total_line.ensures.result_value, c.put_total_line.ensures.put) in
     record { result_value = both.0; put = both.1; }
