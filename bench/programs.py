@@ -69,15 +69,15 @@ def make_suites():
 
 def build_ours():
     """Our programs `sheet` and `answers`, proved and built if a crate has changed since."""
-    built = subprocess.run([needed("rt"), "check", "sheet", "answers"], cwd=HOUSE, capture_output=True, text=True)
+    built = subprocess.run([HOUSE / "bin" / "build-proved", "sheet", "answers"], capture_output=True, text=True)
     if built.returncode != 0:
-        raise Failed("not proved: " + built.stdout[-500:])
+        raise Failed("not proved: " + built.stderr[-500:])
     return OURS / "sheet", OURS / "answers"
 
 
 def toolchain():
     rt = Path(needed("rt")).resolve()
-    return rt.parent.parent / "on" / platform.machine() / "toolchain"
+    return rt.parent.parent / "toolchain"
 
 
 def command(program):
@@ -91,8 +91,8 @@ def command(program):
 
 
 def answer(words, data):
-    """What a started program says to some input, on another processor under the toolchain's emulator."""
-    emulator = [] if NATIVE else [str(toolchain() / "bin" / "qemu-x86_64")]
+    """What a started program says to some input, on another processor under the system's emulator."""
+    emulator = [] if NATIVE else [needed("qemu-x86_64")]
     ran = subprocess.run(emulator + words, input=data, capture_output=True)
     if ran.returncode != 0:
         raise Failed(f"{words[-1]} ended with status {ran.returncode}")

@@ -1,4 +1,4 @@
-/* Occurrence coverage over bench runs, for C: the archive libexports.a, which `rt staticlib exports` makes. `occov`: occurrence coverage.
+/* Occurrence coverage over bench runs, for C: the archive libexports.a, which `bin/build-proved exports` makes. `occov`: occurrence coverage.
  *
  * Each function is proved to answer, and to leave in the lent bytes or words, what its operation's definition says (docs/PROMISES.md).
  * The proof holds for a caller that guarantees what follows. Nothing checks a C caller:

@@ -1,4 +1,4 @@
-//! Where the archive stands: the folder in `OCCOV_ARCHIVE`, or that where `rt staticlib exports` puts it.
+//! Where the archive stands: the folder in `OCCOV_ARCHIVE`, or that where `bin/build-proved exports` puts it.
 fn main() {
     let own = std::env::var("CARGO_MANIFEST_DIR").expect("cargo names the package's folder");
     let archive = std::env::var("OCCOV_ARCHIVE").unwrap_or(format!("{own}/../../target/staticlib"));

@@ -1,5 +1,6 @@
 // The rows that each kind adds, and how many.
 #![tactic(auto)]
+
 ghost use Rattle.std.specs.Prelude.{◌≡◌, ◌<◌};
 ghost use Rattle.rows.specs.Rows.{kind_of};
 ghost use Rattle.codec.specs.Codec.{padded};

@@ -1,6 +1,7 @@
 // Cases on standard input, each an operation and its inputs, answered on standard output: what the operation answers, and every lent byte
 // after it (docs/OUTSIDE.md has the layout of both). The programs `worked`, on stored vectors, and `answers` are this.
 #![tactic(auto)]
+
 ghost use Rattle.std.specs.Prelude.{◌≡◌, length};
 
 use cases::Case;

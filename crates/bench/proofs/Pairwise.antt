@@ -79,10 +79,10 @@ module _ {P Q : ℕ → ℕ → Type 0} {l r : List ℕ} {n m : ℕ} (ahead : Ex
   pub exact_join :
       (R : ℕ → ℕ → Type 0) → ((a b : ℕ) → P a b → R a b) → ((a b : ℕ) → Q a b → R a b) →
       ((a b : ℕ) → R a b → P a b ⊎ Q a b) → ((a b c d : ℕ) → P a b → Q c d → Before a b c d) → Exact R (l ++ r) (n + m)
-  exact_join R from_First from_Second split before =
+  exact_join R from_first from_second split before =
       record {
         even = let e = ahead.even in let d = after.even in omega (arith, length-append l r);
-        each = λ k h. by_part R k h (λ g. from_First _ _ (ahead.each k g)) (λ d g _. from_Second _ _ (after.each d g));
+        each = λ k h. by_part R k h (λ g. from_first _ _ (ahead.each k g)) (λ d g _. from_second _ _ (after.each d g));
         none_missing = λ a b h. ⊎_elim (in_first a b) (in_second a b) (split a b h);
         ordered =
             λ k h g i.

@@ -1,5 +1,6 @@
 // What the list and the sheet count and say: definitions, and laws about them.
 #![tactic(auto)]
+
 use lengths::Requirement;
 use limits::Suite;
 

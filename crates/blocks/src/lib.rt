@@ -1,5 +1,6 @@
 // All readings of a run judged in one pass from its last step to its first, a block of steps at a time, and each block row by row.
 #![tactic(auto)]
+
 ghost use Rattle.std.specs.Prelude.{◌≡◌, ℕ, ◌+◌, ◌/◌, ◌<◌, ◌≤◌, length, get_or};
 ghost use Rattle.lengths.specs.Lengths.{most_requirement_rows};
 ghost use Rattle.signals.specs.Truth.{verdict_of};

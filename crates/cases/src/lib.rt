@@ -1,6 +1,7 @@
 // The bytes of a case and of an answer, for a program that reads cases and writes what the operations answer (docs/OUTSIDE.md has the
 // layout of both): heads of four-byte numbers, words and limits.
 #![tactic(auto)]
+
 ghost use Rattle.std.specs.Prelude.{◌≡◌, ◌+◌, ◌≤◌, ◌<◌, length, take};
 ghost use Rattle.io.specs.Counts.{IsPrefixLen};
 

@@ -1,5 +1,6 @@
 // Formula rows decoded from bytes, and encoded back.
 #![tactic(auto)]
+
 ghost use Rattle.std.specs.Prelude.{◌≡◌, length, drop, ◌++◌, ◌≤◌, ◌<◌, min};
 ghost use Rattle.lengths.specs.Lengths.{most_table_rows};
 ghost use Rattle.codec.specs.Codec.{rows_of, padded, row_of, bytes_of_row, encoded_says, encode_of, encoded};

@@ -1,5 +1,6 @@
 // The column engine: all rows at one step, from the last step to the first.
 #![tactic(auto)]
+
 ghost use Rattle.std.specs.Prelude.{◌≡◌, ◌<◌, length};
 ghost use Rattle.lengths.specs.Lengths.{most_table_rows};
 ghost use Rattle.signals.specs.Truth.{verdict_of};

@@ -1,5 +1,6 @@
 // The bench sheet composed line by line: the blocks of the requirements, the `cond` lines, the whole.
 #![tactic(auto)]
+
 ghost use Rattle.std.specs.Prelude.{◌≡◌, ◌&&◌, ◌+◌, ◌*◌, ◌≤◌, ◌<◌, length};
 ghost use Rattle.limits.specs.Limits.{most_requirements};
 ghost use Rattle.bench.specs.Longest.{note_count, cond_line_most, block_most, sheet_most};

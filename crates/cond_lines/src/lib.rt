@@ -1,5 +1,6 @@
 // The `cond` lines of the sheet.
 #![tactic(auto)]
+
 ghost use Rattle.std.specs.Prelude.{◌≡◌, [], ◌∷◌, ◌+◌, ◌≤◌, ◌<◌, length};
 ghost use Rattle.bench.specs.Longest.{answer_most, cond_line_most};
 ghost use Rattle.lines.specs.Lines.{line, Put};

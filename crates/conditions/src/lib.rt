@@ -1,5 +1,6 @@
 // What the sheet answers of a condition: yes, no or unused.
 #![tactic(auto)]
+
 ghost use Rattle.std.specs.Prelude.{◌≡◌, ◌&&◌, ◌<◌, length};
 ghost use Rattle.signals.specs.Signals.{some};
 ghost use Rattle.layout.specs.Layout.{form1, requirements_in};

@@ -1,5 +1,6 @@
 // The contents of a suite file: its head and its entries, and the checks behind refusals 1 to 6.
 #![tactic(auto)]
+
 ghost use Rattle.std.specs.Prelude.{◌≡◌, ◌&&◌, ◌+◌, ◌*◌, ◌≤◌, ◌<◌, eqb, leb, length};
 ghost use Rattle.limits.specs.Limits.{within, suite_says};
 ghost use Rattle.figures.specs.Numbers.{lowest};

@@ -1,5 +1,6 @@
 // All occurrences of a suite, and those that mattered, counted.
 #![tactic(auto)]
+
 ghost use Rattle.std.specs.Prelude.{◌≡◌, ◌≤◌, ◌<◌, length};
 ghost use Rattle.lengths.specs.Lengths.{most_requirement_rows};
 ghost use Rattle.bench.specs.Longest.{note_count};

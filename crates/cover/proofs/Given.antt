@@ -136,10 +136,10 @@ module _ (requirement run : List ℕ) (conditions occurrence room : ℕ) where
       instead (sym (then_assoc (requirement_sized conditions (length requirement)) (requirement_rows conditions rows) after))
 
   run_taken : Passes (run_checked conditions run) ↔ RunTaken
-  run_taken = Iff.trans (both_pass _ _) (Iff.and (run_passes (length run)) (lowest_passes (λ x. StrayBit (step_place.Lone record {0 = x})) _ _))
+  run_taken = Iff.trans (both_pass _ _) (Iff.and (run_passes (length run)) (lowest_passes (λ x. StrayBit (step_place.Lone record { 0 = x })) _ _))
 
   stray_11 : Numbered (refused_at (λ i. StrayBit (step_place.Lone (record { 0 = i }))) (lowest_stray conditions run)) 11
-  stray_11 = lowest_numbered (λ x. StrayBit (step_place.Lone record {0 = x})) _ _ 11 (λ k. refl)
+  stray_11 = lowest_numbered (λ x. StrayBit (step_place.Lone record { 0 = x })) _ _ 11 (λ k. refl)
 
   never_run : (n : ℕ) → (10 ≡ n → ⊥) → (11 ≡ n → ⊥) → Never n (run_checked conditions run)
   never_run n d e = never_then _ n _ (run_numbered (length run)) d (numbered_never n _ stray_11 e)
@@ -177,7 +177,7 @@ module _ (requirement run : List ℕ) (conditions occurrence room : ℕ) where
       (Iff.trans (stop after_run 11 _ _ (never_after_run 11 (omega arith)))
       (Iff.trans (skip _ 11 _ _ (run_numbered (length run)) (λ e. omega arith))
       (Iff.and (run_passes (length run))
-      (lowest_refused (λ x. StrayBit (step_place.Lone record {0 = x})) _ _ 11 (λ k. place.Step (record { 0 = k })) printed_place (λ k. refl) (λ k. refl) i)))))
+      (lowest_refused (λ x. StrayBit (step_place.Lone record { 0 = x })) _ _ 11 (λ k. place.Step (record { 0 = k })) printed_place (λ k. refl) (λ k. refl) i)))))
 
   -- and past that the occurrence is asked for
   past_run : (n : ℕ) (p : Place) → 11 < n → (answer ≡ refused n p) ↔ (Taken conditions requirement × (RunTaken × (after_run ≡ refused n p)))

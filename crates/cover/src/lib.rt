@@ -1,5 +1,6 @@
 // The operation `witness`.
 #![tactic(auto)]
+
 ghost use Rattle.std.specs.Prelude.{◌≡◌, ◌≤◌, ◌<◌, length, get_or};
 ghost use Rattle.limits.specs.Limits.{most_conditions};
 ghost use Rattle.lengths.specs.Lengths.{most_requirement_rows};

@@ -1,5 +1,6 @@
 // An encoder log: counts, differences and travel, all in encoder counts, none of it in millimetres or inches.
 #![tactic(auto)]
+
 ghost use Rattle.std.specs.Prelude.{◌≡◌, suc, ◌*◌, ◌<◌, ◌≤◌, ◌+ℤ◌, unsigned_abs};
 ghost use Rattle.lengths.specs.Lengths.{most_steps};
 ghost use Rattle.encoder.specs.Log.{count_in, difference_in, half_turn, signed, travel, wrapped};

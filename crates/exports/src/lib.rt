@@ -1,6 +1,7 @@
-// The operations for programs in C and Rust: `rt staticlib exports` makes the archive, include/occov.h is its header. Each function
+// The operations for programs in C and Rust: `bin/build-proved exports` makes the archive, include/occov.h is its header. Each function
 // promises what its operation promises. Names begin with `occov`, for occurrence coverage, since a C name is the whole program's.
 #![tactic(auto)]
+
 ghost use Rattle.std.specs.Prelude.{◌≡◌, length, get_or};
 ghost use Rattle.figures.specs.Outputs.{lent_after};
 ghost use Rattle.codec.specs.Codec.{rows_of};

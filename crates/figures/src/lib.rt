@@ -1,6 +1,7 @@
 // What every number counts, the places, and the refusals. A number crosses an interface only in one of these types; those marked
 // `#[repr(C)]` cross the C interface too (room `exports`).
 #![tactic(auto)]
+
 ghost use Rattle.std.specs.Prelude.{◌≡◌};
 ghost use Rattle.figures.specs.Refusals.{number_of, place_of, row_place_of, step_place_of, printed_place};
 

@@ -1,5 +1,6 @@
 // The rows of a suite file, read where they stand.
 #![tactic(auto)]
+
 ghost use Rattle.std.specs.Prelude.{◌≡◌, ◌≤◌, ◌<◌, length};
 ghost use Rattle.lengths.specs.Lengths.{most_requirement_rows};
 ghost use Rattle.rows.specs.Rows.{row_at};

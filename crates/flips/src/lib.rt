@@ -1,5 +1,6 @@
 // One occurrence of a requirement, flipped at every step of a run: whether the pair is covered.
 #![tactic(auto)]
+
 ghost use Rattle.std.specs.Prelude.{◌≡◌, cond, ◌&&◌, ◌++◌, ◌≤◌, ◌<◌, eqb, length, drop, replicate};
 ghost use Rattle.rows.specs.Rows.{first};
 ghost use Rattle.rows.specs.Checks.{is_not};

@@ -1,5 +1,6 @@
 // Many readings of one run at once: each is a lane, one bit of every word of the engine. A row at one step, in all lanes.
 #![tactic(auto)]
+
 ghost use Rattle.std.specs.Prelude.{◌≡◌, not, cond, ℕ, ◌<◌, eqb};
 ghost use Rattle.rows.specs.Rows.{kind_of};
 ghost use Rattle.signals.specs.Truth.{bit};

@@ -1,5 +1,6 @@
 // The form of a suite file.
 #![tactic(auto)]
+
 ghost use Rattle.std.specs.Prelude.{◌≡◌};
 ghost use Rattle.layout.specs.Checks.{range_of, of_suite};
 

@@ -1,5 +1,6 @@
 // The lengths of tables and runs: each limit named once, and the constructors that apply them.
 #![tactic(auto)]
+
 ghost use Rattle.std.specs.Prelude.{◌≡◌};
 ghost use Rattle.limits.specs.Limits.{within};
 ghost use Rattle.lengths.specs.Lengths.{rows_within, table_says, requirement_says, run_says, table_of, requirement_of, run_of};

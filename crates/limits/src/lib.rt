@@ -1,5 +1,6 @@
 // The limits of a suite, each named once, and the constructors that apply them.
 #![tactic(auto)]
+
 ghost use Rattle.std.specs.Prelude.{◌≡◌};
 ghost use Rattle.figures.specs.Refusals.{check_says};
 ghost use Rattle.limits.specs.Limits.{within, counts_within, suite_says, suite_of, file_of};

@@ -18,11 +18,11 @@ pub put_refusal :
     Put numbered second (decimal q ++ (line_feed ∷ [])) after → end ≡ second + (length (decimal q) + 1) →
     (end ≡ at + length (refused_line n p)) × Put before at (refused_line n p) after
 unfolding refused_line
-put_refusal {q} n p place named named_End numbered numbered_end placed PlacedEnd =
+put_refusal {q} n p place named named_end numbered numbered_end placed placed_end =
     let number = decimal n in
     let where_at = decimal q in
     let long = length_more refused_word number (where_at ∷ []) in
     let longer = length_more number where_at [] in
     let longest = length_last where_at in
     rw (← place)
-    (omega arith, put_field refused_word number (where_at ∷ []) named named_End (put_field number where_at [] numbered numbered_end placed))
+    (omega arith, put_field refused_word number (where_at ∷ []) named named_end (put_field number where_at [] numbered numbered_end placed))

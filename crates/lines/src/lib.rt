@@ -1,6 +1,7 @@
 // Lines of text, written into lent bytes one field after the other: words, decimal numbers, and the line of a refusal.
 // These are helpers of the rooms above: a caller shows that the text fits.
 #![tactic(auto)]
+
 ghost use Rattle.std.specs.Prelude.{◌≡◌, [], ◌∷◌, ◌++◌, ◌+◌, ◌≤◌, length};
 ghost use Rattle.figures.specs.Refusals.{number_of, place_of};
 ghost use Rattle.lines.specs.Lines.{decimal, refused_line, Put};

@@ -1,5 +1,6 @@
 // The operation `list`: the covered pairs of one requirement of a suite.
 #![tactic(auto)]
+
 ghost use Rattle.std.specs.Prelude.{◌≡◌, ◌*◌, ◌<◌, length};
 ghost use Rattle.layout.specs.Layout.{form1, requirements_in, runs_in};
 ghost use Rattle.layout.specs.Checks.{requirement_rows_in, run_words_in};

@@ -1,5 +1,6 @@
 // Little-endian numbers, read from lent bytes.
 #![tactic(auto)]
+
 ghost use Rattle.std.specs.Prelude.{◌≡◌, ◌+◌, ◌*◌, ◌≤◌, ◌<◌, length, get_or};
 ghost use Rattle.little.specs.Little.{little_at};
 

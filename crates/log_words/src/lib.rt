@@ -1,5 +1,6 @@
 // One step's word of a recorded run: which conditions hold, by their limits and the travel at the step, all in encoder counts.
 #![tactic(auto)]
+
 ghost use Rattle.std.specs.Prelude.{◌≡◌, cond, ◌≤◌, length};
 ghost use Rattle.limits.specs.Limits.{most_conditions};
 ghost use Rattle.log_words.specs.StepWord.{holds_at, word_by};

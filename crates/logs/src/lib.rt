@@ -1,5 +1,6 @@
 // The checks of an encoder log, behind refusals 10 and 17.
 #![tactic(auto)]
+
 ghost use Rattle.std.specs.Prelude.{◌≡◌, ◌≤◌};
 ghost use Rattle.lengths.specs.Lengths.{most_steps};
 ghost use Rattle.encoder.specs.Log.{lowest_half_turn, steps_in};

@@ -1,5 +1,6 @@
 // The table of marks of one requirement over the runs of a file, and how many of the runs it holds of: one pass over each run.
 #![tactic(auto)]
+
 ghost use Rattle.std.specs.Prelude.{◌≡◌, ◌≤◌, ◌<◌, length};
 ghost use Rattle.limits.specs.Limits.{most_runs};
 ghost use Rattle.lengths.specs.Lengths.{most_requirement_rows};

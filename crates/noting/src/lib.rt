@@ -1,5 +1,6 @@
 // Notes: which occurrences of a suite mattered in some run.
 #![tactic(auto)]
+
 ghost use Rattle.std.specs.Prelude.{◌≡◌, ◌≤◌, ◌<◌, length};
 ghost use Rattle.lengths.specs.Lengths.{most_requirement_rows};
 ghost use Rattle.limits.specs.Limits.{most_runs, most_requirements};

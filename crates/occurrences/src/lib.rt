@@ -1,5 +1,6 @@
 // The occurrences of a requirement: how many, and the row of each.
 #![tactic(auto)]
+
 ghost use Rattle.std.specs.Prelude.{◌≡◌, length, ◌<◌};
 ghost use Rattle.std.proofs.Math.ListN.{get_elem?};
 ghost use Rattle.rows.specs.Checks.{found_row, occurrences, occurrence_says, occurrence_of};

@@ -1,5 +1,6 @@
 // The `suite`, `req` and `total` lines of the sheet.
 #![tactic(auto)]
+
 ghost use Rattle.std.specs.Prelude.{◌≡◌, ◌+◌, ◌≤◌, ◌<◌, length};
 ghost use Rattle.bench.specs.Longest.{suite_line_most, req_line_most, total_line_most};
 ghost use Rattle.lines.specs.Lines.{Put};

@@ -1,5 +1,6 @@
 // What a row reads at a step, and a field of a row as a place in a column.
 #![tactic(auto)]
+
 ghost use Rattle.std.specs.Prelude.{◌≡◌};
 ghost use Rattle.signals.specs.Column.{read_of, reads_at};
 

@@ -37,7 +37,7 @@ module _ (log : List ℕ) (limits : List ℤ) (room n : ℕ) (taken : taken_of l
   accepted =
       let right = ((given_steps log limits room n).0 taken).1.0.0.1 in
       (both_pass _ _).1
-      ((run_passes (length (run_made limits log))).1 (omega (arith, many), omega (arith, many)), (lowest_passes (λ x. StrayBit (Lone record {0 = x})) _ _).1 clean)
+      ((run_passes (length (run_made limits log))).1 (omega (arith, many), omega (arith, many)), (lowest_passes (λ x. StrayBit (Lone record { 0 = x })) _ _).1 clean)
 
   pub accepted_in_file : (from : ℕ) → Passes (run_from (length limits) from (run_made limits log))
-  accepted_in_file from = (lowest_passes (λ x. StrayBit (File record {0 = offset_of from 4 x})) _ _).1 clean
+  accepted_in_file from = (lowest_passes (λ x. StrayBit (File record { 0 = offset_of from 4 x })) _ _).1 clean

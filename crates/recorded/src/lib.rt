@@ -1,6 +1,7 @@
 // Taking in a recorded run: an encoder log and the conditions' limits made into a lone run of words. All of it is in encoder counts, none
 // of it in millimetres or inches.
 #![tactic(auto)]
+
 ghost use Rattle.std.specs.Prelude.{◌≡◌, ◌++◌, ◌≤◌, length, drop};
 ghost use Rattle.limits.specs.Limits.{most_conditions};
 ghost use Rattle.lengths.specs.Lengths.{most_steps};

@@ -1,5 +1,6 @@
 // Rows as a requirement has them: the check behind refusal 9.
 #![tactic(auto)]
+
 ghost use Rattle.std.specs.Prelude.{◌≡◌, length, ◌&&◌, ◌<◌};
 ghost use Rattle.rows.specs.Rows.{named};
 ghost use Rattle.rows.specs.Checks.{found_row, times, namings, named_once, not_over_condition, lowest_unrequired};

@@ -1,5 +1,6 @@
 // Refusals 3, 7, 8 and 9 of a lone table or requirement.
 #![tactic(auto)]
+
 ghost use Rattle.std.specs.Prelude.{◌≡◌, ◌<◌};
 ghost use Rattle.figures.specs.Refusals.{check_says};
 ghost use Rattle.rows.specs.Checks.{lowest_unsound, found_row, table_sized, requirement_sized, rows_checked, requirement_checked, requirement_rows};

@@ -1,5 +1,6 @@
 // A block of steps, and one row over it: the row's words at the block's steps, written from the last step to the first.
 #![tactic(auto)]
+
 ghost use Rattle.std.specs.Prelude.{◌≡◌, ◌≤◌, length};
 ghost use Rattle.row_lines.specs.RowLines.{block_steps, block_words, Fits, Lined};
 

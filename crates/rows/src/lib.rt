@@ -1,6 +1,7 @@
 // Formula rows: their kinds, and the check of one row behind refusal 8.
 // A row is three numbers, as document 01 has them: kind, first, second.
 #![tactic(auto)]
+
 ghost use Rattle.std.specs.Prelude.{◌≡◌, cond, ◌≤◌, ◌<◌};
 ghost use Rattle.rows.specs.Rows.{kind_of, fields_of, row_at};
 ghost use Rattle.rows.specs.Checks.{row_sound, is_condition};

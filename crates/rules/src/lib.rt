@@ -1,5 +1,6 @@
 // The trap rules: what they say, and the rows that until, release and weak until add.
 #![tactic(auto)]
+
 ghost use Rattle.std.specs.Prelude.{◌≡◌, ◌<◌};
 ghost use Rattle.rows.specs.Rows.Kind.{Until, Release, WeakUntil};
 ghost use Rattle.codec.specs.Codec.{padded};

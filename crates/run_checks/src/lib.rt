@@ -1,5 +1,6 @@
 // The checks of a run behind refusals 10 and 11.
 #![tactic(auto)]
+
 ghost use Rattle.std.specs.Prelude.{◌≡◌};
 ghost use Rattle.figures.specs.Refusals.{check_says};
 ghost use Rattle.signals.specs.Truth.{lowest_stray};

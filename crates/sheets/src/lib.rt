@@ -1,5 +1,6 @@
 // The operations that write the bench sheet, or the program's whole output, into lent bytes.
 #![tactic(auto)]
+
 ghost use Rattle.std.specs.Prelude.{◌≡◌, ◌+◌, ◌*◌, ◌≤◌, ◌<◌, length};
 ghost use Rattle.bench.specs.Longest.{sheet_most};
 ghost use Rattle.lines.specs.Lines.{Put};

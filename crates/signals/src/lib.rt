@@ -1,5 +1,6 @@
 // One row at one step: the bits of a step's word, and a row's value from the values below it and after it.
 #![tactic(auto)]
+
 ghost use Rattle.std.specs.Prelude.{◌≡◌, ◌<◌};
 ghost use Rattle.rows.specs.Rows.{kind_of};
 ghost use Rattle.signals.specs.Truth.{bit, word_sound};

@@ -1,5 +1,6 @@
 // The suite file: the checks behind 8, 9 and 11, all checks in order, and its parts, which come as parts of the lent slice.
 #![tactic(auto)]
+
 ghost use Rattle.std.specs.Prelude.{◌≡◌, ◌+◌, ◌*◌, ◌≤◌, ◌<◌, min, length, take, drop};
 ghost use Rattle.limits.specs.Limits.{suite_says};
 ghost use Rattle.lengths.specs.Lengths.{most_table_rows, most_steps};

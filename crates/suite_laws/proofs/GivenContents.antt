@@ -66,7 +66,7 @@ module _ (form : Layout) (range : Range) (file : List ℕ) where
   inside_4 = test_numbered tt ContentsCut (leb (contents_end form file) (length file))
 
   entries_5 : Numbered (entries_checked form file) 5
-  entries_5 = lowest_numbered (λ x. Entry record {0 = entry_at form x}) _ _ 5 (λ k. refl)
+  entries_5 = lowest_numbered (λ x. Entry record { 0 = entry_at form x }) _ _ 5 (λ k. refl)
 
   end_6 : Numbered (end_checked form file) 6
   end_6 = test_numbered tt FileEnd (eqb (length file) (must_begin form file (items_in file)))
@@ -164,7 +164,7 @@ module _ (form : Layout) (range : Range) (file : List ℕ) where
   contents_5 some k =
       past_4 (omega arith)
       (stop_at _ from_6 numbers_6
-      (lowest_refused (λ x. Entry record {0 = entry_at form x}) _ _ 5 (λ j. place.Byte (record { 0 = entry_at form j })) entry_of (λ j. refl) tells k))
+      (lowest_refused (λ x. Entry record { 0 = entry_at form x }) _ _ 5 (λ j. place.Byte (record { 0 = entry_at form j })) entry_of (λ j. refl) tells k))
     where
       entry_of : Place → ℕ
       entry_of p = (printed_place p - head_size) / form.entry_size

@@ -93,10 +93,10 @@ module _ (form : Layout) (file : List ℕ) where
         refused_at (λ r. NotRequirement (row_place.File (record { 0 = offset_of (start_in form file q) form.row_size r }))) (lowest_unrequired rows)
 
     sound_8 : Numbered sound 8
-    sound_8 = lowest_numbered (λ x. UnsoundRow (row_place.File record {0 = offset_of (start_in form file q) form.row_size x})) _ _ 8 (λ k. refl)
+    sound_8 = lowest_numbered (λ x. UnsoundRow (row_place.File record { 0 = offset_of (start_in form file q) form.row_size x })) _ _ 8 (λ k. refl)
 
     required_9 : Numbered required 9
-    required_9 = lowest_numbered (λ x. NotRequirement (row_place.File record {0 = offset_of (start_in form file q) form.row_size x})) _ _ 9 (λ k. refl)
+    required_9 = lowest_numbered (λ x. NotRequirement (row_place.File record { 0 = offset_of (start_in form file q) form.row_size x })) _ _ 9 (λ k. refl)
 
     requirement_numbers : Refuses (Within 8 9) (requirement_of_file form file q)
     requirement_numbers =
@@ -106,12 +106,12 @@ module _ (form : Layout) (file : List ℕ) where
       unsound_at : (requirement_of_file form file q ≡ refused 8 p) ↔ ((r : ℕ) × ((p ≡ place_of_row q r) × UnsoundAt q r))
       unsound_at =
           Iff.trans (stop required 8 sound p (numbered_never 8 required required_9 (λ e. omega arith)))
-          (lowest_at (λ x. UnsoundRow (row_place.File record {0 = offset_of (start_in form file q) form.row_size x})) 8 (place_of_row q) (λ r. refl) _ _ p)
+          (lowest_at (λ x. UnsoundRow (row_place.File record { 0 = offset_of (start_in form file q) form.row_size x })) 8 (place_of_row q) (λ r. refl) _ _ p)
 
       unrequired_at : (requirement_of_file form file q ≡ refused 9 p) ↔ ((r : ℕ) × ((p ≡ place_of_row q r) × UnrequiredAt q r))
       unrequired_at =
           Iff.trans (skip required 9 sound p sound_8 (λ e. omega arith))
-          (Iff.trans (Iff.and (lowest_passes (λ x. UnsoundRow (row_place.File record {0 = offset_of (start_in form file q) form.row_size x})) _ _) (lowest_at (λ x. NotRequirement (row_place.File record {0 = offset_of (start_in form file q) form.row_size x})) 9 (place_of_row q) (λ r. refl) _ _ p)) (
+          (Iff.trans (Iff.and (lowest_passes (λ x. UnsoundRow (row_place.File record { 0 = offset_of (start_in form file q) form.row_size x })) _ _) (lowest_at (λ x. NotRequirement (row_place.File record { 0 = offset_of (start_in form file q) form.row_size x })) 9 (place_of_row q) (λ r. refl) _ _ p)) (
             λ h. let (all, (r, (there, low))) = h in (r, (there, (all, low))),
             λ h. let (r, (there, (all, low))) = h in (all, (r, (there, low))),
           ))
@@ -121,7 +121,7 @@ module _ (form : Layout) (file : List ℕ) where
   requirements_numbers = turn_numbers _ _ (Within 8 9) requirement_numbers
 
   pub runs_numbered : Numbered (runs_of_file form file) 11
-  runs_numbered = turn_numbers _ _ (λ n. n ≡ 11) (λ j. lowest_numbered (λ x. StrayBit (File record {0 = offset_of (start_in form file (requirements_in file + j)) word_size x})) _ _ 11 (λ i. refl))
+  runs_numbered = turn_numbers _ _ (λ n. n ≡ 11) (λ j. lowest_numbered (λ x. StrayBit (File record { 0 = offset_of (start_in form file (requirements_in file + j)) word_size x })) _ _ 11 (λ i. refl))
 
   module _ (p : Place) where
     pub requirements_8 :
@@ -133,4 +133,4 @@ module _ (form : Layout) (file : List ℕ) where
     requirements_9 = first_at _ _ place_of_row UnrequiredAt 9 p (λ q. unrequired_at q p)
 
     pub runs_11 : (runs_of_file form file ≡ refused 11 p) ↔ FirstAt (runs_in file) (run_of_file form file) word_place StrayAt p
-    runs_11 = first_at _ _ word_place StrayAt 11 p (λ j. lowest_at (λ x. StrayBit (File record {0 = offset_of (start_in form file (requirements_in file + j)) word_size x})) 11 (word_place j) (λ i. refl) _ _ p)
+    runs_11 = first_at _ _ word_place StrayAt 11 p (λ j. lowest_at (λ x. StrayBit (File record { 0 = offset_of (start_in form file (requirements_in file + j)) word_size x })) 11 (word_place j) (λ i. refl) _ _ p)

@@ -40,7 +40,7 @@ module _ (conditions : ℕ) (rows : List Row) where
   rows_pass unsound unrequired = Iff.trans (both_pass _ _) (Iff.and (lowest_passes _ _ _) (lowest_passes _ _ _))
 
   pub passes_in_file : (from size : ℕ) → Passes (requirement_from conditions from size rows) ↔ Passes (requirement_rows conditions rows)
-  passes_in_file from size = Iff.trans (rows_pass (λ x. UnsoundRow (File record {0 = offset_of from size x})) (λ x. NotRequirement (File record {0 = offset_of from size x}))) (Iff.symm (rows_pass (λ x. UnsoundRow (lone_row x)) (λ x. NotRequirement (lone_row x))))
+  passes_in_file from size = Iff.trans (rows_pass (λ x. UnsoundRow (File record { 0 = offset_of from size x })) (λ x. NotRequirement (File record { 0 = offset_of from size x }))) (Iff.symm (rows_pass (λ x. UnsoundRow (lone_row x)) (λ x. NotRequirement (lone_row x))))
 
 -- a sound row is of a known kind
 known_kind : (conditions r : ℕ) (row : Row) → So (row_sound conditions r row) → kind_number row < 13

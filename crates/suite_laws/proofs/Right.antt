@@ -76,7 +76,7 @@ module _ (form : Layout) (file : List ℕ) where
 
   pub entries_pass : Passes (entries_checked form file) ↔ ((k : ℕ) → k < items_in file → EntryRight form file k)
   entries_pass =
-      Iff.trans (lowest_passes (λ x. Entry record {0 = entry_at form x}) _ _)
+      Iff.trans (lowest_passes (λ x. Entry record { 0 = entry_at form x }) _ _)
       (λ h k l. (entry_passes k).0 (h k (omega arith) l), λ h k _ l. (entry_passes k).1 (h k l))
 
   module _ (range : Range) where

@@ -16,4 +16,4 @@ use Rattle.layout.specs.Checks.{offset_of, run_from}
 module _ (conditions : ℕ) (run : List ℕ) where
   pub passes_in_file : (from : ℕ) → Passes (run_checked conditions run) ↔ (Within 1 most_steps (length run) × Passes (run_from conditions from run))
   passes_in_file from =
-      Iff.trans (both_pass _ _) (Iff.and (run_passes (length run)) (Iff.trans (lowest_passes (λ x. StrayBit (Lone record {0 = x})) _ _) (Iff.symm (lowest_passes (λ x. StrayBit (File record {0 = offset_of from 4 x})) _ _))))
+      Iff.trans (both_pass _ _) (Iff.and (run_passes (length run)) (Iff.trans (lowest_passes (λ x. StrayBit (Lone record { 0 = x })) _ _) (Iff.symm (lowest_passes (λ x. StrayBit (File record { 0 = offset_of from 4 x })) _ _))))

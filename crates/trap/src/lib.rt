@@ -1,5 +1,6 @@
 // The trap formula of an occurrence: the way up to the last row, and the operation `trap`.
 #![tactic(auto)]
+
 ghost use Rattle.std.specs.Prelude.{◌≡◌, ◌++◌, ◌+◌, ◌*◌, ◌≤◌, ◌<◌, length};
 ghost use Rattle.lengths.specs.Lengths.{most_requirement_rows};
 ghost use Rattle.codec.specs.Codec.{bytes_of};

@@ -1,5 +1,6 @@
 // The travel of a log as text: a line for each step, or the line of the log's refusal, put into lent bytes.
 #![tactic(auto)]
+
 ghost use Rattle.std.specs.Prelude.{◌≡◌, ◌+◌, ◌*◌, ◌≤◌, ◌<◌, nat_abs, length};
 ghost use Rattle.lengths.specs.Lengths.{most_steps};
 ghost use Rattle.figures.specs.Outputs.{output_says, lent_after};

@@ -93,7 +93,7 @@ module _ (table run : List ℕ) (conditions : ℕ) where
   rows_8 = lowest_numbered (λ x. UnsoundRow (lone_row x)) _ _ 8 (λ k. refl)
 
   words_11 : Numbered words 11
-  words_11 = lowest_numbered (λ x. StrayBit (step_place.Lone record {0 = x})) _ _ 11 (λ k. refl)
+  words_11 = lowest_numbered (λ x. StrayBit (step_place.Lone record { 0 = x })) _ _ 11 (λ k. refl)
 
   suite_3 : Numbered suite 3
   suite_3 = suite_numbered conditions 1 1
@@ -201,7 +201,7 @@ module _ (table run : List ℕ) (conditions : ℕ) where
       (Iff.trans (past_steps _ (λ e. omega arith))
       (Iff.and Iff.rfl
       (Iff.trans (stop answer 11 words _ (never_gives 11 _))
-      (lowest_refused (λ x. StrayBit (step_place.Lone record {0 = x})) _ _ 11 (λ k. place.Step (record { 0 = k })) printed_place (λ k. refl) (λ k. refl) i))))))))))
+      (lowest_refused (λ x. StrayBit (step_place.Lone record { 0 = x })) _ _ 11 (λ k. place.Step (record { 0 = k })) printed_place (λ k. refl) (λ k. refl) i))))))))))
 
   -- and the verdict where nothing is refused
   pub given_verdict :
@@ -218,4 +218,4 @@ module _ (table run : List ℕ) (conditions : ℕ) where
       (Iff.and (lowest_passes (λ x. UnsoundRow (lone_row x)) _ _)
       (Iff.trans (passes steps _ b)
       (Iff.and (run_passes (length run))
-      (Iff.trans (passes words _ b) (Iff.and (lowest_passes (λ x. StrayBit (step_place.Lone record {0 = x})) _ _) (λ e. cc, λ e. ap gives e)))))))))))
+      (Iff.trans (passes words _ b) (Iff.and (lowest_passes (λ x. StrayBit (step_place.Lone record { 0 = x })) _ _) (λ e. cc, λ e. ap gives e)))))))))))

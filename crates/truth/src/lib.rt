@@ -1,5 +1,6 @@
 // The operation `truth`: the verdict of a formula table over a run.
 #![tactic(auto)]
+
 ghost use Rattle.std.specs.Prelude.{◌≡◌, ◌≤◌, ◌<◌, length};
 ghost use Rattle.lengths.specs.Lengths.{most_table_rows};
 ghost use Rattle.limits.specs.Limits.{most_conditions};

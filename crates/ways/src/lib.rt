@@ -1,5 +1,6 @@
 // The way from an occurrence up to the last row, and the rows that it adds.
 #![tactic(auto)]
+
 ghost use Rattle.std.specs.Prelude.{◌≡◌, cond, ◌++◌, ◌+◌, ◌≤◌, ◌<◌, length, take, drop};
 ghost use Rattle.lengths.specs.Lengths.{most_table_rows, most_requirement_rows};
 ghost use Rattle.rows.specs.Rows.{named};

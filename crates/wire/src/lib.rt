@@ -1,5 +1,6 @@
 // What an operation answered, as the one C struct that every exported function returns.
 #![tactic(auto)]
+
 ghost use Rattle.std.specs.Prelude.{◌≡◌};
 ghost use Rattle.figures.specs.Refusals.{number_of, place_of};
 ghost use Rattle.figures.specs.Outputs.{output_says};

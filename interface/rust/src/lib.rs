@@ -1,4 +1,4 @@
-//! Occurrence coverage over bench runs, for Rust: the proved operations of the archive `libexports.a` (`rt staticlib exports`).
+//! Occurrence coverage over bench runs, for Rust: the proved operations of the archive `libexports.a` (`bin/build-proved exports`).
 //!
 //! Each function is safe: a slice brings its own length, and what the archive asks of a caller (include/occov.h) is what Rust's
 //! references guarantee, but for the stack, which must have room: 512 KiB for [`sheet`], 64 KiB for the others.

@@ -51,6 +51,6 @@ loop-r-preserved c =
 
 pub returns : goal.returns
 returns c = record {
-      here_len_2 = c.loop-r.invariant.1;
-      cells = λ r h. c.loop-r.invariant.2 r (omega arith);
-    }
+  here_len_2 = c.loop-r.invariant.1;
+  cells = λ r h. c.loop-r.invariant.2 r (omega arith);
+}

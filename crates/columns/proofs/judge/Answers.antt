@@ -14,9 +14,9 @@ loop-i-init c = (search rules, search rules, refl, λ h. absurd (omega arith))
 
 pub column-requires : goal.column-requires
 column-requires c = record {
-      fit = c.requires.0;
-      here_len = c.loop-i.invariant.2;
-    }
+  fit = c.requires.0;
+  here_len = c.loop-i.invariant.2;
+}
 
 pub loop-i-preserved : goal.loop-i-preserved
 loop-i-preserved c =

@@ -50,4 +50,4 @@ returns c =
     let both = of-rows (run_words_in form1 c.args.theirs.now) c.args.q.0 c.args.out.now c.args.at.0 _ _ c.args.notes.now _
     (lent c.requires.0 c.requires.3 c.requirement_bytes-body.ensures c.decode-rows.ensures) c.requires.2
     (c.put_block_of.ensures.result_value, (c.put_block_of.ensures.put, c.put_block_of.ensures.requirement_noted)) in
-    record { result_value = both.0; put = both.1.0; requirement_noted = both.1.1; }
+    record { result_value = both.0; put = both.1.0; requirement_noted = both.1.1 }

@@ -44,4 +44,4 @@ returns c =
     c.mark_runs-held.new.marks right c.requires.0.few_rows c.occurrence_count.ensures c.mark_runs-held.ensures.result_value.0
     (c.put_req_line-head.ensures.result_value, c.put_req_line-head.ensures.put) (c.put_covs.ensures.result_value, c.put_covs.ensures.put))
     (requirement_noted right c.note_marks.ensures) in
-    record { result_value = both.0; put = both.1.0; requirement_noted = both.1.1; }
+    record { result_value = both.0; put = both.1.0; requirement_noted = both.1.1 }

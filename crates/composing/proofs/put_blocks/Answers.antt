@@ -18,8 +18,7 @@ put_block-end-requires c =
 
 pub loop-q-preserved : goal.loop-q-preserved
 loop-q-preserved c =
-    let inv = c.loop-q.invariant in
-    (
+    let inv = c.loop-q.invariant in (
       passed_more _ 26646 inv.0 c.loop-q-test.true (c.put_block-end.ensures.result_value, c.put_block-end.ensures.put),
       c.put_block-end.ensures.requirement_noted.same_length ∙ inv.1,
       suite_more (bench_of c.args.ours.now c.args.theirs.now) (λ r l. (c.requires.0.rows r (omega arith)).few_rows) inv.2 c.put_block-end.ensures.requirement_noted,
@@ -29,4 +28,4 @@ pub returns : goal.returns
 returns c =
     let inv = c.loop-q.invariant in
     let both = and_also (passed_all _ 26646 inv.0 c.loop-q-test.false) (λ q p l g. inv.2 q p (omega arith) g) in
-    record { result_value = both.0; put = both.1.0; suite_noted = both.1.1; }
+    record { result_value = both.0; put = both.1.0; suite_noted = both.1.1 }

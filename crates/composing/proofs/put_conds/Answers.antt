@@ -36,4 +36,4 @@ loop-c-preserved c =
 pub returns : goal.returns
 returns c =
     let both = passed_all _ 15 c.loop-c.invariant c.loop-c-test.false in
-    record { result_value = both.0; put = both.1; }
+    record { result_value = both.0; put = both.1 }

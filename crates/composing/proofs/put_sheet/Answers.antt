@@ -63,8 +63,7 @@ all_occurrences-all-requires c =
 
 pub put_total_line-requires : goal.put_total_line-requires
 put_total_line-requires c =
-    let pre = c.requires in
-    (
+    let pre = c.requires in (
       omega (arith, c.all_noted-some.ensures.1),
       omega (arith, c.all_occurrences-all.ensures.1),
       omega (
@@ -89,4 +88,4 @@ returns c =
     let both = whole (bench_of c.args.ours.now c.args.theirs.now) c.put_blocks-blocks.new.notes c.put_blocks-blocks.ensures.suite_noted pre.3 pre.4 pre.2
     c.all_noted-some.ensures.0 c.all_occurrences-all.ensures.0 (c.put_suite_line-head.ensures.result_value, c.put_suite_line-head.ensures.put) (c.put_blocks-blocks.ensures.result_value, c.put_blocks-blocks.ensures.put) (c.put_conds-conds.ensures.result_value, c.put_conds-conds.ensures.put)
     (c.put_total_line.ensures.result_value, c.put_total_line.ensures.put) in
-    record { result_value = both.0; put = both.1; }
+    record { result_value = both.0; put = both.1 }

@@ -27,4 +27,4 @@ returns c =
     let answer = answer_word c.args.answer in
     let both = field cond_word 4 10 (omega arith) n (answer ∷ []) (c.put_word-cond.ensures.result_value, c.put_word-cond.ensures.put)
     (field n 2 7 (width_2 _ c.requires.0) answer [] (c.put_number-number.ensures.result_value, c.put_number-number.ensures.put) (c.put_answer.ensures.result_value, c.put_answer.ensures.put)) in
-    record { result_value = both.0; put = both.1; }
+    record { result_value = both.0; put = both.1 }

@@ -68,7 +68,7 @@ returns-in-Refused c =
     let refused = said check_says (λ o. o) c.check_requirement.ensures c.in-Refused.is in
     let both = falsified a.requirement.now a.run.now a.conditions.0 a.occurrence.0 a.out.now
     (answered _ _ (by_size a.requirement.now a.run.now a.conditions.0 a.occurrence.0 a.out.now refused) refl) in
-    record { result_value = both.0; out_after = both.1.0; falsified = both.1.1; }
+    record { result_value = both.0; out_after = both.1.0; falsified = both.1.1 }
 
 pub slice_bounds-rows-end : goal.slice_bounds-rows-end
 slice_bounds-rows-end c =
@@ -98,4 +98,4 @@ returns c =
     (by_rows a.requirement.now a.run.now a.conditions.0 a.occurrence.0 a.out.now passed
     (front a.requirement.now a.conditions.0 passed c.decode-rows.ensures)
     (c.witness_of_rows.ensures.result_value, c.witness_of_rows.ensures.out_after)) in
-    record { result_value = both.0; out_after = both.1.0; falsified = both.1.1; }
+    record { result_value = both.0; out_after = both.1.0; falsified = both.1.1 }

@@ -41,7 +41,7 @@ returns-then-not-covers c =
     let a = c.args in
     let covers = c.covers in
     let both = uncovered a.rows.now a.run.now a.out.now a.p.0 covers.ensures (not-true covers.result (ap not c.if-not-covers.true)) in
-    record { result_value = both.0; out_after = both.1; }
+    record { result_value = both.0; out_after = both.1 }
 
 pub returns-then-out-steps : goal.returns-then-out-steps
 returns-then-out-steps c =
@@ -49,7 +49,7 @@ returns-then-out-steps c =
     let covers = c.covers in
     let both = no_room a.rows.now a.run.now a.out.now a.p.0 covers.ensures (not-false covers.result (ap not c.if-not-covers.false))
     c.if-out-steps.true in
-    record { result_value = both.0; out_after = both.1; }
+    record { result_value = both.0; out_after = both.1 }
 
 pub returns : goal.returns
 returns c =
@@ -57,4 +57,4 @@ returns c =
     let covers = c.covers in
     let both = written a.rows.now a.run.now a.out.now a.p.0 covers.ensures (not-false covers.result (ap not c.if-not-covers.false))
     (omega arith) c.witness_byte.ensures c.fill.ensures in
-    record { result_value = both.0; out_after = both.1; }
+    record { result_value = both.0; out_after = both.1 }

@@ -54,7 +54,7 @@ returns-in-Refused c =
     let a = c.args in
     let refused = said check_says (λ o. o) c.check_requirement_rows.ensures c.in-Refused.is in
     let both = answered _ _ (by_rows a.rows.now a.run.now a.conditions.0 a.occurrence.0 (length a.out.now) refused) refl in
-    record { result_value = both.0; out_after = both.1; }
+    record { result_value = both.0; out_after = both.1 }
 
 pub returns-in-Refused-check_run : goal.returns-in-Refused-check_run
 returns-in-Refused-check_run c =
@@ -62,7 +62,7 @@ returns-in-Refused-check_run c =
     let rows-passed = said check_says (λ o. o) c.check_requirement_rows.ensures c.in_default.is in
     let refused = said check_says (λ o. o) c.check_run.ensures c.in-Refused-check_run.is in
     let both = answered _ _ (by-run a.rows.now a.run.now a.conditions.0 a.occurrence.0 (length a.out.now) rows-passed refused) refl in
-    record { result_value = both.0; out_after = both.1; }
+    record { result_value = both.0; out_after = both.1 }
 
 pub witness_of_pair-requires : goal.witness_of_pair-requires
 witness_of_pair-requires c =
@@ -81,7 +81,7 @@ returns-in-Row c =
     let there = said occurrence_says (λ o. o) c.occurrence_of.ensures c.in-Row.is in
     let both = by-pair a.rows.now a.run.now a.conditions.0 a.occurrence.0 (length a.out.now) rows-passed run-passed there a.out.now
     (c.witness_of_pair.ensures.result_value, c.witness_of_pair.ensures.out_after) in
-    record { result_value = both.0; out_after = both.1; }
+    record { result_value = both.0; out_after = both.1 }
 
 pub returns-in-Refused-occurrence_of : goal.returns-in-Refused-occurrence_of
 returns-in-Refused-occurrence_of c =
@@ -90,4 +90,4 @@ returns-in-Refused-occurrence_of c =
     let run-passed = said check_says (λ o. o) c.check_run.ensures c.in_default-check_run.is in
     let refused = said occurrence_says (λ o. o) c.occurrence_of.ensures c.in-Refused-occurrence_of.is in
     let both = answered _ _ (by-occurrence a.rows.now a.run.now a.conditions.0 a.occurrence.0 (length a.out.now) rows-passed run-passed refused) refl in
-    record { result_value = both.0; out_after = both.1; }
+    record { result_value = both.0; out_after = both.1 }

@@ -5,9 +5,9 @@ use Rattle.covs.proofs.put_cov_if.Goals as goal
 
 pub returns-then-mark : goal.returns-then-mark
 returns-then-mark c = rw c.if-mark.true (record {
-      result_value = c.put_cov_line.ensures.result_value;
-      put = c.put_cov_line.ensures.put;
-    })
+  result_value = c.put_cov_line.ensures.result_value;
+  put = c.put_cov_line.ensures.put;
+})
 
 pub returns-else-mark : goal.returns-else-mark
 returns-else-mark c =

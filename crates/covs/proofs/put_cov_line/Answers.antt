@@ -42,4 +42,4 @@ returns c =
     (field q 2 6 (width_2 _ c.requires.0) o (j ∷ []) (c.put_number-requirement.ensures.result_value, c.put_number-requirement.ensures.put)
     (field o 2 3 (width_2 _ c.requires.1) j [] (c.put_number-occurrence.ensures.result_value, c.put_number-occurrence.ensures.put)
     (last j 2 (width_2 _ c.requires.2) (c.put_number.ensures.result_value, c.put_number.ensures.put)))) in
-    record { result_value = both.0; put = both.1; }
+    record { result_value = both.0; put = both.1 }

@@ -24,4 +24,4 @@ pub returns : goal.returns
 returns c =
     let both = within (omega (arith, few_occurrences c.args.rows.now))
     (rw c.occurrence_count-many.ensures at (passed_all _ 832 c.loop-o.invariant c.loop-o-test.false)) in
-    record { result_value = both.0; put = both.1; }
+    record { result_value = both.0; put = both.1 }

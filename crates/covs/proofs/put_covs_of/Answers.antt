@@ -18,4 +18,4 @@ loop-j-preserved c =
 pub returns : goal.returns
 returns c =
     let both = passed_all _ 13 c.loop-j.invariant c.loop-j-test.false in
-    record { result_value = both.0; put = both.1; }
+    record { result_value = both.0; put = both.1 }

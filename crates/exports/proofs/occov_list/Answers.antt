@@ -5,6 +5,6 @@ use Rattle.exports.proofs.occov_list.Goals as goal
 
 pub returns : goal.returns
 returns c = record {
-      value = c.of_output.ensures ∙ ap written_answer c.list.ensures.result_value;
-      out_after = c.list.ensures.out_after;
-    }
+  value = c.of_output.ensures ∙ ap written_answer c.list.ensures.result_value;
+  out_after = c.list.ensures.out_after;
+}

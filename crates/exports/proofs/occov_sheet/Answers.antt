@@ -5,6 +5,6 @@ use Rattle.exports.proofs.occov_sheet.Goals as goal
 
 pub returns : goal.returns
 returns c = record {
-      value = c.of_output.ensures ∙ ap written_answer c.sheet.ensures.result_value;
-      out_after = c.sheet.ensures.out_after;
-    }
+  value = c.of_output.ensures ∙ ap written_answer c.sheet.ensures.result_value;
+  out_after = c.sheet.ensures.out_after;
+}

@@ -5,6 +5,6 @@ use Rattle.exports.proofs.occov_take_in.Goals as goal
 
 pub returns : goal.returns
 returns c = record {
-      value = c.of_taken.ensures ∙ ap taken_answer c.take_in.ensures.result_value;
-      out_after = c.take_in.ensures.out_after;
-    }
+  value = c.of_taken.ensures ∙ ap taken_answer c.take_in.ensures.result_value;
+  out_after = c.take_in.ensures.out_after;
+}

@@ -5,6 +5,6 @@ use Rattle.exports.proofs.occov_trap.Goals as goal
 
 pub returns : goal.returns
 returns c = record {
-      value = c.of_trapped.ensures ∙ ap written_answer c.trap.ensures.result_value;
-      out_after = c.trap.ensures.out_after;
-    }
+  value = c.of_trapped.ensures ∙ ap written_answer c.trap.ensures.result_value;
+  out_after = c.trap.ensures.out_after;
+}

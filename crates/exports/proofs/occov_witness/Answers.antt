@@ -5,6 +5,6 @@ use Rattle.exports.proofs.occov_witness.Goals as goal
 
 pub returns : goal.returns
 returns c = record {
-      value = c.of_witnessed.ensures ∙ ap witness_answer c.witness.ensures.result_value;
-      out_after = c.witness.ensures.out_after;
-    }
+  value = c.of_witnessed.ensures ∙ ap witness_answer c.witness.ensures.result_value;
+  out_after = c.witness.ensures.out_after;
+}

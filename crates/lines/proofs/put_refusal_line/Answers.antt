@@ -35,4 +35,4 @@ returns c =
     c.put_number-numbered.ensures.result_value
     c.put_number.ensures.put
     c.put_number.ensures.result_value in
-    record { result_value = both.0; put = both.1; }
+    record { result_value = both.0; put = both.1 }

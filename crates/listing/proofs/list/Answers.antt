@@ -31,7 +31,7 @@ returns-in-Refused c =
     let both = answered _ _
     (by_file a.file.now a.q.0 (length a.out.now) (said suite_says (λ o. o) c.check.ensures c.in-Refused.is))
     refl in
-    record { result_value = both.0; out_after = both.1; }
+    record { result_value = both.0; out_after = both.1 }
 
 pub returns-in-Made : goal.returns-in-Made
 returns-in-Made c =
@@ -39,4 +39,4 @@ returns-in-Made c =
     let both = along (listed a.file.now a.q.0) a.out.now
     (by_file a.file.now a.q.0 (length a.out.now) (said suite_says (λ o. o) c.check.ensures c.in-Made.is))
     (c.list_from.ensures.result_value, c.list_from.ensures.out_after) in
-    record { result_value = both.0; out_after = both.1; }
+    record { result_value = both.0; out_after = both.1 }

@@ -46,7 +46,7 @@ module _ (ours theirs : List ℕ) (q : ℕ) (out : List ℕ) where
 pub returns-then-requirements-q : goal.returns-then-requirements-q
 returns-then-requirements-q c =
     let both = no_such c.args.ours.now c.args.theirs.now c.args.q.0 c.args.out.now (omega arith) in
-    record { result_value = both.0; out_after = both.1; }
+    record { result_value = both.0; out_after = both.1 }
 
 pub slice_bounds-rows-end : goal.slice_bounds-rows-end
 slice_bounds-rows-end c =
@@ -69,4 +69,4 @@ returns c =
     let both = by_rows c.args.ours.now c.args.theirs.now c.args.q.0 c.args.out.now there
     (lent c.requires.0 there c.requirement_bytes-body.ensures c.decode-rows.ensures) c.requires.3
     (c.list_rows.ensures.result_value, c.list_rows.ensures.out_after) in
-    record { result_value = both.0; out_after = both.1; }
+    record { result_value = both.0; out_after = both.1 }

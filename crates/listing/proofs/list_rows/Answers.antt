@@ -88,7 +88,7 @@ pub returns-then-out-many : goal.returns-then-out-many
 returns-then-out-many c =
     let both = too_short c.args.rows.now c.args.runs.0 (run_words_in form1 c.args.theirs.now) c.args.out.now
     c.occurrence_count-many.ensures c.if-out-many.true in
-    record { result_value = both.0; out_after = both.1; }
+    record { result_value = both.0; out_after = both.1 }
 
 -- there is room for what is copied
 room_there : (c : After-list_pairs-end) → c.list_pairs-end.result.0 ≤ length c.args.out.now
@@ -117,4 +117,4 @@ returns c =
     (end_is rows runs words made.new.marks made.ensures.marks_len.1 (c.list_pairs-end.ensures.result_value, c.list_pairs-end.ensures.put))
     (front_is rows runs words made.new.marks made.ensures.marks_len.1 (c.list_pairs-end.ensures.result_value, c.list_pairs-end.ensures.put))
     (ap (λ (x : List ℕ). x ++ drop c.list_pairs-end.result.0 c.args.out.now) c.copy_from_slice.ensures.after) in
-    record { result_value = both.0; out_after = both.1; }
+    record { result_value = both.0; out_after = both.1 }

@@ -26,12 +26,12 @@ loop-r-preserved c =
     let f = condition_at c.args.rows.now in
     let more = length_more f q.r in
     elim c.if-is_condition.branch [
-      then-is_condition+else-seen-wanted w ↦
-        let here = one_of (sym c.is_condition.ensures ∙ w.if-is_condition.true) in
-        (omega arith, omega (arith, w.seen-is, more, here), omega (arith, w.if-seen-wanted.false, w.seen-is))
+      | then-is_condition+else-seen-wanted w ↦
+          let here = one_of (sym c.is_condition.ensures ∙ w.if-is_condition.true) in
+          (omega arith, omega (arith, w.seen-is, more, here), omega (arith, w.if-seen-wanted.false, w.seen-is))
       | else-is_condition w ↦
-        let here = one_of (sym c.is_condition.ensures ∙ w.if-is_condition.false) in
-        (omega arith, omega (arith, w.seen-is, more, here), omega (arith, w.seen-is))
+          let here = one_of (sym c.is_condition.ensures ∙ w.if-is_condition.false) in
+          (omega arith, omega (arith, w.seen-is, more, here), omega (arith, w.seen-is))
     ]
 
 pub returns : goal.returns

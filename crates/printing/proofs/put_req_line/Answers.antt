@@ -56,4 +56,4 @@ returns c =
     (field many 2 8 (width_2 _ c.requires.1) held_word (held ∷ []) (c.put_number-count.ensures.result_value, c.put_number-count.ensures.put)
     (field held_word 4 3 (omega arith) held [] (c.put_word-word.ensures.result_value, c.put_word-word.ensures.put)
     (last held 2 (width_2 _ c.requires.2) (c.put_number.ensures.result_value, c.put_number.ensures.put)))))) in
-    record { result_value = both.0; put = both.1; }
+    record { result_value = both.0; put = both.1 }

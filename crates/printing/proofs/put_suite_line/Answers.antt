@@ -31,4 +31,4 @@ returns c =
     let n = decimal c.args.runs.0 in
     let both = field suite_word 5 6 (omega arith) m (n ∷ []) (c.put_word-word.ensures.result_value, c.put_word-word.ensures.put)
     (field m 2 3 (width_2 _ c.requires.0) n [] (c.put_number-first.ensures.result_value, c.put_number-first.ensures.put) (last n 2 (width_2 _ c.requires.1) (c.put_number.ensures.result_value, c.put_number.ensures.put))) in
-    record { result_value = both.0; put = both.1; }
+    record { result_value = both.0; put = both.1 }

@@ -31,4 +31,4 @@ returns c =
     let n = decimal c.args.all.0 in
     let both = field total_word 5 8 (omega arith) m (n ∷ []) (c.put_word-total.ensures.result_value, c.put_word-total.ensures.put)
     (field m 3 4 (width_3 _ c.requires.0) n [] (c.put_number-first.ensures.result_value, c.put_number-first.ensures.put) (last n 3 (width_3 _ c.requires.1) (c.put_number.ensures.result_value, c.put_number.ensures.put))) in
-    record { result_value = both.0; put = both.1; }
+    record { result_value = both.0; put = both.1 }

@@ -15,11 +15,11 @@ returns-then-many-out c =
     let both = answered (run_made a.limits.now a.log.now) a.out.now
     (rw (le-leb a.steps.0 (length a.out.now) (omega (arith, c.before.before.before.before))))
     (c.put_words.ensures ∙ ap (λ (k : ℕ). run_made a.limits.now a.log.now ++ drop k a.out.now) c.requires.2) in
-    record { result_value = both.0; out_after = both.1; }
+    record { result_value = both.0; out_after = both.1 }
 
 pub returns-else-many-out : goal.returns-else-many-out
 returns-else-many-out c =
     let a = c.args in
     let both = answered (run_made a.limits.now a.log.now) a.out.now
     (rw (lt-leb a.steps.0 (length a.out.now) (omega arith))) refl in
-    record { result_value = both.0; out_after = both.1; }
+    record { result_value = both.0; out_after = both.1 }

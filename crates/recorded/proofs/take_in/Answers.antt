@@ -36,7 +36,7 @@ returns-in-Refused c =
     let a = c.args in
     let refused = said suite_says (λ o. o) c.lone.ensures c.in-Refused.is in
     let both = answered _ _ (by-limits a.log.now a.limits.now (length a.out.now) refused) refl in
-    record { result_value = both.0; out_after = both.1; }
+    record { result_value = both.0; out_after = both.1 }
 
 pub put_run-requires : goal.put_run-requires
 put_run-requires c =
@@ -52,7 +52,7 @@ returns-in-Refused-check_log c =
     let made = said suite_says (λ o. o) c.lone.ensures c.in_default.is in
     let refused = said log_says (λ o. o) c.check_log.ensures c.in-Refused-check_log.is in
     let both = answered _ _ (by-log a.log.now a.limits.now (length a.out.now) made refused) refl in
-    record { result_value = both.0; out_after = both.1; }
+    record { result_value = both.0; out_after = both.1 }
 
 pub returns-in-Steps : goal.returns-in-Steps
 returns-in-Steps c =
@@ -60,4 +60,4 @@ returns-in-Steps c =
     let made = said suite_says (λ o. o) c.lone.ensures c.in_default.is in
     let counted = said log_says (λ o. o) c.check_log.ensures c.in-Steps.is in
     let both = along _ _ (by-log a.log.now a.limits.now (length a.out.now) made counted) (c.put_run.ensures.result_value, c.put_run.ensures.out_after) in
-    record { result_value = both.0; out_after = both.1; }
+    record { result_value = both.0; out_after = both.1 }

@@ -7,13 +7,13 @@ use Rattle.sheets.proofs.page.Goals as goal
 pub returns-then-out-count : goal.returns-then-out-count
 returns-then-out-count c =
     let both = too_short (page_text c.args.file.now) c.put_page-end.ensures.result_value c.put_page-end.ensures.put c.args.out.now c.if-out-count.true in
-    record { result_value = both.0; out_after = both.1; }
+    record { result_value = both.0; out_after = both.1 }
 
 pub returns : goal.returns
 returns c =
     let out = c.args.out.now in
     let end = c.put_page-end.result.0 in
     let both =
-        written (page_text c.args.file.now) c.put_page-end.ensures.result_value c.put_page-end.ensures.put out c.if-out-count.false
-        (ap (λ (x : List ℕ). x ++ drop end out) c.copy_from_slice.ensures.after) in
+    written (page_text c.args.file.now) c.put_page-end.ensures.result_value c.put_page-end.ensures.put out c.if-out-count.false
+    (ap (λ (x : List ℕ). x ++ drop end out) c.copy_from_slice.ensures.after) in
     record { result_value = both.0; out_after = both.1 }

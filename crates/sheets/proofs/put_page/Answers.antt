@@ -32,10 +32,10 @@ returns-in-Refused c =
     let both = by_file c.args.file.now
     (said suite_says (λ o. o) c.check.ensures c.in-Refused.is)
     (filled _ (c.put_refused.ensures.result_value ∙ zero-add _) c.put_refused.ensures.put) in
-    record { result_value = both.0; put = both.1.0; prefix_len = both.1.1; }
+    record { result_value = both.0; put = both.1.0; prefix_len = both.1.1 }
 
 pub returns-in-Made : goal.returns-in-Made
 returns-in-Made c =
     let both = by_file c.args.file.now
     (said suite_says (λ o. o) c.check.ensures c.in-Made.is) (filled _ c.put_sheet.ensures.result_value c.put_sheet.ensures.put) in
-    record { result_value = both.0; put = both.1.0; prefix_len = both.1.1; }
+    record { result_value = both.0; put = both.1.0; prefix_len = both.1.1 }

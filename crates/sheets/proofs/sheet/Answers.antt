@@ -37,10 +37,10 @@ returns-in-Refused c =
     let a = c.args in
     let both = answered (sheet_of_file a.file.now) a.out.now
     (by_file a.file.now a.out.now (said suite_says (λ o. o) c.check.ensures c.in-Refused.is)) refl in
-    record { result_value = both.0; out_after = both.1; }
+    record { result_value = both.0; out_after = both.1 }
 
 pub returns : goal.returns
 returns c =
     let a = c.args in
     let both = by-page a.file.now a.out.now (said suite_says (λ o. o) c.check.ensures c.in_default.is) (c.page.ensures.result_value, c.page.ensures.out_after) in
-    record { result_value = both.0; out_after = both.1; }
+    record { result_value = both.0; out_after = both.1 }

@@ -14,13 +14,13 @@ use Rattle.trap.proofs.trap_at.Goals as goal
 pub returns-then-total-gt-ROWS : goal.returns-then-total-gt-ROWS
 returns-then-total-gt-ROWS c = let a = c.args in
     let both = too_many a.rows.now a.p.0 a.out.now (omega (arith, c.go_up-count.ensures.value)) in
-    record { result_value = both.0; out_after = both.1; }
+    record { result_value = both.0; out_after = both.1 }
 
 pub returns-then-out-total : goal.returns-then-out-total
 returns-then-out-total c =
     let a = c.args in
     let both = too_short a.rows.now a.p.0 a.out.now (omega (arith, c.go_up-count.ensures.value)) (omega (arith, c.go_up-count.ensures.value)) in
-    record { result_value = both.0; out_after = both.1; }
+    record { result_value = both.0; out_after = both.1 }
 
 pub slice_bounds-write_table-end : goal.slice_bounds-write_table-end
 slice_bounds-write_table-end c =

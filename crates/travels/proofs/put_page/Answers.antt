@@ -46,10 +46,10 @@ returns-in-Refused c =
     let size = rw (c.number.ensures, c.place.ensures) at c.put_refusal_line.ensures.result_value in
     let put = rw (c.number.ensures, c.place.ensures) at c.put_refusal_line.ensures.put in
     let both = by-log log (said log_says (λ o. o) c.check_log.ensures c.in-Refused.is) (filled _ (size ∙ zero-add _) put) in
-    record { result_value = both.0; put = both.1.0; prefix_len = both.1.1; }
+    record { result_value = both.0; put = both.1.0; prefix_len = both.1.1 }
 
 pub returns-in-Steps : goal.returns-in-Steps
 returns-in-Steps c =
     let both = all-steps c.args.log.now (said log_says (λ o. o) c.check_log.ensures c.in-Steps.is)
     c.put_travels.ensures.result_value c.put_travels.ensures.put in
-    record { result_value = both.0; put = both.1.0; prefix_len = both.1.1; }
+    record { result_value = both.0; put = both.1.0; prefix_len = both.1.1 }

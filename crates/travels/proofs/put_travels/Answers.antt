@@ -27,9 +27,9 @@ loop-k-init c = (passed_none _ 11 _ _ _, zero-travel c.args.log.now)
 
 pub travel_after-next-requires : goal.travel_after-next-requires
 travel_after-next-requires c = let loop = c.loop-k in record {
-      step_lt_most_steps = omega (arith, c.requires.0);
-      gone_value = loop.invariant.1;
-    }
+  step_lt_most_steps = omega (arith, c.requires.0);
+  gone_value = loop.invariant.1;
+}
 
 pub put_travel-end-requires : goal.put_travel-end-requires
 put_travel-end-requires c =
@@ -51,4 +51,4 @@ loop-k-preserved c =
 pub returns : goal.returns
 returns c =
     let both = from_start _ (passed_all _ 11 c.loop-k.invariant.0 c.loop-k-test.false) in
-    record { result_value = both.0; put = both.1; }
+    record { result_value = both.0; put = both.1 }
