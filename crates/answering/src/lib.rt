@@ -4,7 +4,7 @@
 
 ghost use Rattle.std.specs.Prelude.{◌≡◌, length};
 
-use cases::Case;
+use cases::{Case, Operation};
 use figures::{OccurrenceNumber, RequirementNumber};
 use wire::{Answer, AnswerKind};
 
@@ -25,31 +25,32 @@ fn lent_space() -> [u8; 262144]
 fn of_truth(case: Case, table: &[u8], run: &[u8]) -> Answer {
     let mut words = [0u32; Case::WORDS];
     let count = cases::words_into(run, &mut words);
-    wire::of_verdict(truth::truth(table, &words[..count], case.conditions))
+    truth::truth(table, &words[..count], case.conditions).into()
 }
 
 fn of_trap(case: Case, requirement: &[u8], lent: &mut [u8]) -> Answer {
     let occurrence = OccurrenceNumber(case.which);
-    wire::of_trapped(trap::trap(requirement, case.conditions, occurrence, lent))
+    trap::trap(requirement, case.conditions, occurrence, lent).into()
 }
 
 fn of_witness(case: Case, requirement: &[u8], run: &[u8], lent: &mut [u8]) -> Answer {
     let mut words = [0u32; Case::WORDS];
     let count = cases::words_into(run, &mut words);
     let occurrence = OccurrenceNumber(case.which);
-    wire::of_witnessed(cover::witness(
+    cover::witness(
         requirement,
         &words[..count],
         case.conditions,
         occurrence,
         lent,
-    ))
+    )
+    .into()
 }
 
 fn take_words(log: &[u8], limits: &[u8], words: &mut [u32]) -> Answer {
     let mut given = [0i32; Case::LIMITS];
     let count = cases::limits_into(limits, &mut given);
-    wire::of_taken(recorded::take_in(log, &given[..count], words))
+    recorded::take_in(log, &given[..count], words).into()
 }
 
 // The lent bytes are lent as words; bytes that make no whole word stay as they are.
@@ -73,23 +74,31 @@ fn write_answer(a: Answer) {
     cases::write_head(kind as usize, number, a.unit.0 as usize, a.place.0);
 }
 
-// Calls the operation of a case, of which `first` is the table, file or log, `second` the run or the limits, and writes the answer.
-fn answer(case: Case, first: &[u8], second: &[u8], lent: &mut [u8]) {
-    let operation = case.operation;
+// The answer of a case's operation, of which `first` is the table, file or log, `second` the run or the limits.
+fn answer_of(
+    operation: Operation,
+    case: Case,
+    first: &[u8],
+    second: &[u8],
+    lent: &mut [u8],
+) -> Answer {
     match operation {
-        1 => write_answer(of_truth(case, first, second)),
-        2 => write_answer(of_trap(case, first, lent)),
-        3 => write_answer(of_witness(case, first, second, lent)),
-        4 => write_answer(wire::of_output(listing::list(
-            first,
-            RequirementNumber(case.which),
-            lent,
-        ))),
-        5 => write_answer(wire::of_output(sheets::sheet(first, lent))),
-        6 => write_answer(wire::of_output(sheets::page(first, lent))),
-        7 => write_answer(of_recorded(first, second, lent)),
-        8 => write_answer(wire::of_output(travels::page(first, lent))),
-        _ => cases::write_head(6, 0, 0, 0),
+        Operation::Truth => of_truth(case, first, second),
+        Operation::Trap => of_trap(case, first, lent),
+        Operation::Witness => of_witness(case, first, second, lent),
+        Operation::List => listing::list(first, RequirementNumber(case.which), lent).into(),
+        Operation::Sheet => sheets::sheet(first, lent).into(),
+        Operation::SheetPage => sheets::page(first, lent).into(),
+        Operation::TakeIn => of_recorded(first, second, lent),
+        Operation::TravelPage => travels::page(first, lent).into(),
+    }
+}
+
+// Calls the operation of a case and writes its answer; a number that no operation has is answered by 6.
+fn answer(case: Case, first: &[u8], second: &[u8], lent: &mut [u8]) {
+    match Operation::try_from(case.operation) {
+        Ok(operation) => write_answer(answer_of(operation, case, first, second, lent)),
+        Err(_) => cases::write_head(6, 0, 0, 0),
     }
 }
 
@@ -118,11 +127,12 @@ fn next_case(body: &mut [u8], space: &mut [u8]) -> bool {
     take_case(cases::case_of(&head), body, space)
 }
 
-// A proved loop has to end, and nothing says that the input does: the loop counts its turns down, from a number that no run uses up.
+// A proved loop has to end, and nothing says that the input does: the loop has a last turn, which no run comes to.
 fn all_cases(body: &mut [u8], space: &mut [u8]) {
-    let mut turns = u64::MAX;
-    while turns > 0 && next_case(body, space) {
-        turns -= 1;
+    for _ in 0..u64::MAX {
+        if !next_case(body, space) {
+            return;
+        }
     }
 }
 

@@ -7,3 +7,4 @@ pub mod Cells
 pub mod Ready
 pub mod Decoded
 pub mod Loops
+pub mod Any

@@ -1,60 +1,22 @@
--- The loops over the numbers below a count: one that finds, and one that sums or counts.
+-- The loop over the numbers below a count that sums.
 -- Assumes nothing.
-use mathlib.Core.Path.{◌≡◌, refl, sym, ◌∙◌, ap, ap₂}
-use mathlib.Core.Bool.{Bool, false, cond, ◌||◌, or-false, or_assoc}
-use Prim.Native.Nat.{ℕ, zero, suc, ◌+◌, ◌*◌, ◌≤◌, ◌<◌}
+use mathlib.Core.Path.{◌≡◌, refl, sym, ◌∙◌, ap₂}
+use Prim.Native.Nat.{ℕ, ◌+◌, ◌*◌, ◌≤◌, ◌<◌}
 use native.Mathlib.Omega.{arith}
 use native.Mathlib.Numerals.{add-one}
 use native.Mathlib.Nat.{mul-suc}
-use Rattle.figures.specs.Numbers.{below}
-use Rattle.signals.specs.Signals.{some}
-use Rattle.bench.specs.Coverage.{size, sum}
-use Rattle.bench.proofs.Sizes.{size_more}
-
-some_last : (m i : ℕ) (f : ℕ → Bool) → some (suc m) i f ≡ (some m i f || f (i + m))
-unfolding some
-some_last zero i f = let e : i + 0 ≡ i = omega arith in rw e (or-false (f i))
-some_last (suc m) i f =
-    let e : suc i + m ≡ i + suc m = omega arith in
-    ap (λ (b : Bool). f i || b) (some_last m (suc i) f ∙ ap (λ (k : ℕ). some m (suc i) f || f k) e)
-    ∙ sym (or_assoc (f i) (some m (suc i) f) (f (i + suc m)))
+use Rattle.bench.specs.Coverage.{sum}
 
 -- one number more
-pub any_more : (m : ℕ) (f : ℕ → Bool) → some (m + 1) 0 f ≡ (some m 0 f || f m)
-any_more m f = let e : 0 + m ≡ m = omega arith in rw (add-one, some_last m 0 f, e)
-
 pub sum_more : (m : ℕ) (f : ℕ → ℕ) → sum (m + 1) f ≡ sum m f + f m
 unfolding sum
 sum_more m f = rw add-one
-
--- to count is to sum ones
-pub size_sum : (m : ℕ) (f : ℕ → Bool) → size m f ≡ sum m (λ k. cond (f k) 1 0)
-unfolding sum below
-size_sum zero f = refl
-size_sum (suc m) f = size_more m f ∙ ap (λ (n : ℕ). n + cond (f m) 1 0) (size_sum m f)
-
--- a loop over the numbers below m that has passed those below k, and says whether it found one at which f holds
-pub record Found (f : ℕ → Bool) (m k : ℕ) (found : Bool) : Type 0 where
-  pub within : k ≤ m
-  pub is : found ≡ some k 0 f
 
 -- a loop over the numbers below m that has passed those below k, and has the sum of f over them, each at most w
 pub record Summed (f : ℕ → ℕ) (w m k total : ℕ) : Type 0 where
   pub within : k ≤ m
   pub is : total ≡ sum k f
   pub few : total ≤ w * k
-
-module _ {f : ℕ → Bool} {m : ℕ} where
-  pub found_none : Found f m 0 false
-  unfolding some
-  found_none = record { within = omega arith; is = refl }
-
-  pub found_more :
-      {k : ℕ} {found here : Bool} → Found f m k found → k < m → here ≡ f k → Found f m (k + 1) (found || here)
-  found_more {k} h l e = record { within = omega arith; is = ap₂ ◌||◌ h.is e ∙ sym (any_more k f) }
-
-  pub found_all : {k : ℕ} {found : Bool} → Found f m k found → m ≤ k → found ≡ some m 0 f
-  found_all {k} h l = let all : k ≡ m = omega arith in h.is ∙ ap (λ (n : ℕ). some n 0 f) all
 
 module _ {f : ℕ → ℕ} {w m : ℕ} where
   pub summed_none : Summed f w m 0 0
@@ -69,24 +31,3 @@ module _ {f : ℕ → ℕ} {w m : ℕ} where
         is = ap₂ ◌+◌ h.is e ∙ sym (sum_more k f);
         few = rw (add-one, mul-suc) (let b = h.few in omega arith);
       }
-
-  pub summed_all : {k total : ℕ} → Summed f w m k total → m ≤ k → (total ≡ sum m f) × (total ≤ w * m)
-  summed_all {k} h l =
-      let all : k ≡ m = omega arith in
-      (h.is ∙ ap (λ (n : ℕ). sum n f) all, rw all at h.few)
-
--- a loop that counts the numbers at which f holds sums ones
-pub record Counted (f : ℕ → Bool) (m k count : ℕ) : Type 0 where
-  pub ones : Summed (λ k. cond (f k) 1 0) 1 m k count
-
-module _ {f : ℕ → Bool} {m : ℕ} where
-  pub counted_none : Counted f m 0 0
-  counted_none = record { ones = summed_none }
-
-  pub counted_more :
-      {k count one : ℕ} {here : Bool} → Counted f m k count → k < m → here ≡ f k → (one ≡ cond here 1 0) × (one ≤ 1) →
-      Counted f m (k + 1) (count + one)
-  counted_more h l e one = record { ones = summed_more h.ones l (one.0 ∙ ap (λ (b : Bool). cond b 1 0) e) one.1 }
-
-  pub counted_all : {k count : ℕ} → Counted f m k count → m ≤ k → (count ≡ size m f) × (count ≤ m)
-  counted_all h l = let all = summed_all h.ones l in (all.0 ∙ sym (size_sum m f), omega arith)

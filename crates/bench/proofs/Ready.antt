@@ -75,12 +75,12 @@ module _ (file : List ℕ) (right : FileRight form1 file) where
           let most = most_run form1 file k (omega arith) in
           record { some_step = omega (arith, entry.0); few_steps = omega (arith, entry.1) }
 
--- a file that gives its counts is ready, and the counts are those in its head
+-- a file whose checks gave these counts is ready, and the counts are those in its head
 pub ready :
-    (file : List ℕ) {counts : Suite} → gives counts ≡ file_says form1 file →
+    (file : List ℕ) (counts : Suite) → file_says form1 file ≡ gives counts →
     RequirementsReady file × RunsReady file × (counts.conditions.0 ≡ conditions_in file) × (counts.requirements.0 ≡ requirements_in file) × (counts.runs.0 ≡ runs_in file)
-ready file {counts} e =
-    let (right, same) = (file_gives form1 file counts).0 (sym e) in (
+ready file counts e =
+    let (right, same) = (file_gives form1 file counts).0 e in (
       requirements_ready file right,
       runs_ready file right,
       ap (λ (s : Suite). s.conditions.0) (sym same),

@@ -1,9 +1,11 @@
 -- What is judged when the requirements come from one file and the runs from another, today the same file.
 -- Assumes nothing.
-use Rattle.std.specs.Prelude.{List, ℕ, ◌≤◌, ◌<◌, length}
+use Rattle.std.specs.Prelude.{List, [], ◌∷◌, ℕ, ◌≤◌, ◌<◌, length}
+use Rattle.std.specs.Coded.{×_prop, Unit-prop, le_prop}
+use Rattle.std.proofs.Props.{props}
 use Rattle.limits.specs.Limits.{most_conditions, most_requirements, most_runs}
 use Rattle.lengths.specs.Lengths.{most_requirement_rows, most_steps}
-use Rattle.rows.specs.Checks.{IsRequirement}
+use Rattle.rows.specs.Checks.{All, IsRequirement}
 use Rattle.signals.specs.Column.{FitIn}
 use Rattle.layout.specs.Layout.{form1, conditions_in, requirements_in, runs_in}
 use Rattle.layout.specs.Checks.{requirement_rows_in, run_words_in}
@@ -39,3 +41,11 @@ pub record RequirementsReady (file : List ℕ) : Type 0 where
 pub record RunsReady (file : List ℕ) : Type 0 where
   pub few_runs : runs_in file ≤ most_runs
   pub run : (j : ℕ) → j < runs_in file → RunReady (run_words_in form1 file j)
+
+-- that they are ready has one proof at most, so a struct may carry it
+lower_prop : (r : ℕ) (ks : List ℕ) → IsProp (All (λ k. k < r) ks)
+lower_prop r [] = Unit-prop
+lower_prop r (k ∷ ks) = ×_prop le_prop (lower_prop r ks)
+
+pub requirements_ready_prop : (file : List ℕ) → IsProp (RequirementsReady file)
+requirements_ready_prop file = Prim.hlevel (props, lower_prop)

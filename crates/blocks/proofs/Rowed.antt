@@ -10,7 +10,8 @@ use borrow.Author.Tests.{eq-eqb, ne_eqb}
 use lib.Dec.{eqb}
 use lib.ListN.{length, get_or}
 use Rattle.lengths.specs.Lengths.{most_requirement_rows}
-use Rattle.rows.specs.Rows.{Row, kind_number, first, second, row_at, named}
+use Rattle.rows.specs.declared.Kind.{Kind}
+use Rattle.rows.specs.Rows.{Row, kind, first, second, row_at, named}
 use Rattle.signals.specs.Signals.{Signal}
 use Rattle.signals.specs.Truth.{Reading, truth_of}
 use Rattle.signals.specs.Column.{FitIn}
@@ -73,7 +74,7 @@ module _
   module _
       (before lines : List ℕ) (r : ℕ) (lr : r < length rows)
       (wrote :
-      Lined (kind_number (row_at rows r)) (line_of keep flips after (eqb (i + steps) (length run)) r (first (row_at rows r)) (second (row_at rows r)))
+      Lined (kind (row_at rows r)) (line_of keep flips after (eqb (i + steps) (length run)) r (first (row_at rows r)) (second (row_at rows r)))
       words steps before lines)
       (below : (j : ℕ) → j < r → LineTrue rows keep flips run i steps before j) where
     -- the row's word at a step is true if the one ahead of it is
@@ -98,17 +99,17 @@ module _
 
 -- one row more
 pub row_more :
-    (rows : List Row) (keep flips after : List ℕ) (last : Bool) (words : List ℕ) (steps : ℕ) (before lines : List ℕ) (r : ℕ) {f s : ℕ} →
-    FitIn most_requirement_rows rows → steps ≤ block_steps → r < length rows → f ≡ first (row_at rows r) → s ≡ second (row_at rows r) →
-    Lined (kind_number (row_at rows r)) (line_of keep flips after last r f s) words steps before lines →
+    (rows : List Row) (keep flips after : List ℕ) (last : Bool) (words : List ℕ) (steps : ℕ) (before lines : List ℕ) (r : ℕ) {m : Kind} {f s : ℕ} →
+    FitIn most_requirement_rows rows → steps ≤ block_steps → r < length rows → m ≡ kind (row_at rows r) → f ≡ first (row_at rows r) → s ≡ second (row_at rows r) →
+    Lined m (line_of keep flips after last r f s) words steps before lines →
     BlockTrue rows keep flips after last words steps before r → BlockTrue rows keep flips after last words steps lines (r + 1)
-row_more rows keep flips after last words steps before lines r fit few lr is_first is_second wrote below run i fits is_last same next r' l' =
+row_more rows keep flips after last words steps before lines r fit few lr is_kind is_first is_second wrote below run i fits is_last same next r' l' =
     go (ℕ_discrete r' r)
   where
     go : Dec (r' ≡ r) → LineTrue rows keep flips run i steps lines r'
     go (yes e) =
         subst (λ (j : ℕ). LineTrue rows keep flips run i steps lines j) (sym e)
         (λ t l k lk.
-        line_true rows fit keep flips after words steps run i fits same next k lk before lines r lr (rw (is_last, is_first, is_second) at wrote)
+        line_true rows fit keep flips after words steps run i fits same next k lk before lines r lr (rw (is_kind, is_last, is_first, is_second) at wrote)
         (below run i fits is_last same next) t l)
     go (no d) = λ t l k lk. rw (wrote.others r' t (omega arith) d) (below run i fits is_last same next r' (omega arith) t l k lk)

@@ -12,12 +12,13 @@ ghost use Rattle.row_lines.specs.RowLines.{block_steps, block_words, line_at, Fi
 ghost use Rattle.blocks.specs.Blocks.{lane_reads, BlockTrue};
 
 use layout::Form;
-use lengths::Requirement;
+use lengths::REQUIREMENT_ROWS;
 use row_lines::{Block, Line};
+use rows::Kind;
 
 // The line of a row of a kind, with a loop for each kind: the compiler makes them of the one of `row_lines`, so that no step asks for the kind.
 fn line_by_kind(
-    kind: u16,
+    kind: Kind,
     line: Line,
     words: &[u32; Block::STEPS],
     steps: usize,
@@ -27,29 +28,29 @@ fn line_by_kind(
     ensures { Lined kind line words.now steps lines.old lines.new }
 {
     match kind {
-        0 => row_lines::put_line(0, line, words, steps, lines),
-        1 => row_lines::put_line(1, line, words, steps, lines),
-        2 => row_lines::put_line(2, line, words, steps, lines),
-        3 => row_lines::put_line(3, line, words, steps, lines),
-        4 => row_lines::put_line(4, line, words, steps, lines),
-        5 => row_lines::put_line(5, line, words, steps, lines),
-        6 => row_lines::put_line(6, line, words, steps, lines),
-        7 => row_lines::put_line(7, line, words, steps, lines),
-        8 => row_lines::put_line(8, line, words, steps, lines),
-        9 => row_lines::put_line(9, line, words, steps, lines),
-        10 => row_lines::put_line(10, line, words, steps, lines),
-        11 => row_lines::put_line(11, line, words, steps, lines),
-        12 => row_lines::put_line(12, line, words, steps, lines),
-        _ => row_lines::put_line(13, line, words, steps, lines),
+        Kind::False => row_lines::put_line(Kind::False, line, words, steps, lines),
+        Kind::True => row_lines::put_line(Kind::True, line, words, steps, lines),
+        Kind::Condition => row_lines::put_line(Kind::Condition, line, words, steps, lines),
+        Kind::Not => row_lines::put_line(Kind::Not, line, words, steps, lines),
+        Kind::And => row_lines::put_line(Kind::And, line, words, steps, lines),
+        Kind::Or => row_lines::put_line(Kind::Or, line, words, steps, lines),
+        Kind::StrongNext => row_lines::put_line(Kind::StrongNext, line, words, steps, lines),
+        Kind::WeakNext => row_lines::put_line(Kind::WeakNext, line, words, steps, lines),
+        Kind::Until => row_lines::put_line(Kind::Until, line, words, steps, lines),
+        Kind::Release => row_lines::put_line(Kind::Release, line, words, steps, lines),
+        Kind::Finally => row_lines::put_line(Kind::Finally, line, words, steps, lines),
+        Kind::Globally => row_lines::put_line(Kind::Globally, line, words, steps, lines),
+        Kind::WeakUntil => row_lines::put_line(Kind::WeakUntil, line, words, steps, lines),
+        Kind::Unknown => row_lines::put_line(Kind::Unknown, line, words, steps, lines),
     }
 }
 
 // The lines of all rows over a block.
 fn put_lines(
     rows: &[[u16; 3]],
-    keep: &[u64; Requirement::ROWS],
-    flips: &[u64; Requirement::ROWS],
-    after: &[u64; Requirement::ROWS],
+    keep: &[u64; REQUIREMENT_ROWS],
+    flips: &[u64; REQUIREMENT_ROWS],
+    after: &[u64; REQUIREMENT_ROWS],
     last: bool,
     words: &[u32; Block::STEPS],
     steps: usize,
@@ -59,23 +60,19 @@ fn put_lines(
     ensures lines_len { length lines.new ≡ block_words }
     ensures block_true { BlockTrue rows.now keep.now flips.now after.now last words.now steps lines.new (length rows.now) }
 {
-    let mut r = 0;
-    while r < rows.len() {
-        let row = rows[r];
-        let kind = row[0];
-        let first = readings::index_of(row[1]);
+    for (r, row) in rows.iter().enumerate() {
+        let first = usize::from(row[1]);
         let line = Line {
             row: r,
-            first: first,
-            second: readings::index_of(row[2]),
+            first,
+            second: usize::from(row[2]),
             keep: keep[r],
             flips: flips[r],
             first_after: after[first],
             row_after: after[r],
-            last: last,
+            last,
         };
-        line_by_kind(kind, line, words, steps, lines);
-        r += 1;
+        line_by_kind(Kind::from(row[0]), line, words, steps, lines);
     }
 }
 
@@ -85,23 +82,19 @@ fn block_words(run: &[u8], from: usize, steps: usize) -> [u32; Block::STEPS]
     ensures { (t : ℕ) → t < steps → get_or result t 0 ≡ get_or (words_of run.now) (from + t) 0 }
 {
     let mut words = [0u32; Block::STEPS];
-    let mut t = 0;
-    while t < steps {
+    for t in 0..steps {
         words[t] = little::word_of(&run[Form::WORD_BYTES * (from + t)..]);
-        t += 1;
     }
     words
 }
 
 // The column of a block's first step.
-fn first_column(lines: &[u64; Block::WORDS]) -> [u64; Requirement::ROWS]
+fn first_column(lines: &[u64; Block::WORDS]) -> [u64; REQUIREMENT_ROWS]
     ensures { (r : ℕ) → r < most_requirement_rows → get_or result r 0 ≡ line_at lines.now r 0 }
 {
-    let mut column = [0u64; Requirement::ROWS];
-    let mut r = 0;
-    while r < Requirement::ROWS {
+    let mut column = [0u64; REQUIREMENT_ROWS];
+    for r in 0..REQUIREMENT_ROWS {
         column[r] = lines[Block::STEPS * r];
-        r += 1;
     }
     column
 }
@@ -111,14 +104,14 @@ fn steps_before(i: usize) -> usize
     requires { 0 < i }
     ensures { (0 < result) × (result ≤ i) × (result ≤ block_steps) }
 {
-    if i < Block::STEPS { i } else { Block::STEPS }
+    i.min(Block::STEPS)
 }
 
 // The verdict of a requirement over a run in each lane.
 pub fn judge(
     rows: &[[u16; 3]],
-    keep: &[u64; Requirement::ROWS],
-    flips: &[u64; Requirement::ROWS],
+    keep: &[u64; REQUIREMENT_ROWS],
+    flips: &[u64; REQUIREMENT_ROWS],
     run: &[u8],
     lines: &mut [u64; Block::WORDS],
 ) -> u64
@@ -127,7 +120,7 @@ pub fn judge(
     ensures lines_len { length lines.new ≡ block_words }
 {
     let steps = run.len() / Form::WORD_BYTES;
-    let mut after = [0u64; Requirement::ROWS];
+    let mut after = [0u64; REQUIREMENT_ROWS];
     let mut i = steps;
     while 0 < i {
         let last = i == steps;

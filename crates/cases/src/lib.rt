@@ -21,6 +21,41 @@ pub struct Case {
     pub room: usize,
 }
 
+// The operations that a case may ask for.
+#[derive(Clone, Copy)]
+pub enum Operation {
+    Truth,
+    Trap,
+    Witness,
+    List,
+    Sheet,
+    SheetPage,
+    TakeIn,
+    TravelPage,
+}
+
+// A number that no operation has.
+#[derive(Clone, Copy)]
+pub struct NoOperation(pub usize);
+
+impl TryFrom<usize> for Operation {
+    type Error = NoOperation;
+
+    fn try_from(number: usize) -> Result<Operation, NoOperation> {
+        match number {
+            1 => Ok(Operation::Truth),
+            2 => Ok(Operation::Trap),
+            3 => Ok(Operation::Witness),
+            4 => Ok(Operation::List),
+            5 => Ok(Operation::Sheet),
+            6 => Ok(Operation::SheetPage),
+            7 => Ok(Operation::TakeIn),
+            8 => Ok(Operation::TravelPage),
+            _ => Err(NoOperation(number)),
+        }
+    }
+}
+
 impl Case {
     // The bytes of a case's head, and of an answer's.
     pub const HEAD: usize = 28;
@@ -38,39 +73,32 @@ impl Case {
     pub const OUTPUT: i32 = 1;
 }
 
-fn least(a: usize, b: usize) -> usize
-    ensures { (result ≤ a) × (result ≤ b) }
-{
-    if a < b { a } else { b }
-}
-
 // So many of the bytes, or all where there are fewer.
 pub fn within(n: usize, bytes: &[u8]) -> usize
     ensures { IsPrefixLen result bytes.now }
 {
-    least(n, bytes.len())
+    n.min(bytes.len())
 }
 
-fn wide(byte: u8) -> usize
-    ensures { result < 256 }
+// The bytes of the four-byte number at a place.
+fn four_at(bytes: &[u8], at: usize) -> [u8; 4]
+    requires { at + 4 ≤ length bytes.now }
 {
-    byte as usize
+    [bytes[at], bytes[at + 1], bytes[at + 2], bytes[at + 3]]
 }
 
 // The four-byte number at a place.
 fn number_at(bytes: &[u8], at: usize) -> usize
     requires { at + 4 ≤ length bytes.now }
-    ensures { result < 4294967296 }
 {
-    wide(bytes[at])
-        + 256 * (wide(bytes[at + 1]) + 256 * (wide(bytes[at + 2]) + 256 * wide(bytes[at + 3])))
+    u32::from_le_bytes(four_at(bytes, at)) as usize
 }
 
 // The head of a case.
 pub fn case_of(head: &[u8; Case::HEAD]) -> Case {
     Case {
         operation: number_at(head, 0),
-        pattern: (number_at(head, 4) % 256) as u8,
+        pattern: head[4],
         bytes: number_at(head, 8),
         first: number_at(head, 12),
         conditions: ConditionCount(number_at(head, 16)),
@@ -83,65 +111,35 @@ pub fn case_of(head: &[u8; Case::HEAD]) -> Case {
 pub fn words_into(bytes: &[u8], words: &mut [u32]) -> usize
     ensures { IsPrefixLen result words.new }
 {
-    let count = least(bytes.len() / 4, words.len());
-    let mut i = 0;
-    while i < count {
-        words[i] = number_at(bytes, 4 * i) as u32;
-        i += 1;
+    let count = (bytes.len() / 4).min(words.len());
+    for i in 0..count {
+        words[i] = u32::from_le_bytes(four_at(bytes, 4 * i));
     }
     count
-}
-
-// A four-byte number read as a signed one: `!m` is -1 - m, which always fits.
-fn signed(n: usize) -> i32
-    requires { n < 4294967296 }
-{
-    if n < 2147483648 {
-        n as i32
-    } else {
-        !((4294967295 - n) as i32)
-    }
 }
 
 // The limits of a log, four bytes each and signed, and how many there are.
 pub fn limits_into(bytes: &[u8], limits: &mut [i32]) -> usize
     ensures { (result ≤ length limits.new) × (result ≡ length (take result limits.new)) }
 {
-    let count = least(bytes.len() / 4, limits.len());
-    let mut i = 0;
-    while i < count {
-        limits[i] = signed(number_at(bytes, 4 * i));
-        i += 1;
+    let count = (bytes.len() / 4).min(limits.len());
+    for i in 0..count {
+        limits[i] = i32::from_le_bytes(four_at(bytes, 4 * i));
     }
     count
 }
 
-fn byte_of(word: u32, which: usize) -> u8 {
-    match which {
-        0 => (word % 256) as u8,
-        1 => (word / 256 % 256) as u8,
-        2 => (word / 256 / 256 % 256) as u8,
-        _ => (word / 256 / 256 / 256 % 256) as u8,
-    }
-}
-
 // The words as bytes, four each, as far as both go; the bytes past them stay.
 pub fn words_back(words: &[u32; Case::WORDS], bytes: &mut [u8]) {
-    let end = 4 * least(bytes.len() / 4, Case::WORDS);
-    let mut i = 0;
-    while i < end {
-        bytes[i] = byte_of(words[i / 4], i % 4);
-        i += 1;
+    let count = (bytes.len() / 4).min(Case::WORDS);
+    for i in 0..count {
+        bytes[4 * i..4 * i + 4].copy_from_slice(&words[i].to_le_bytes());
     }
 }
 
 // Fills the lent bytes.
 pub fn fill(lent: &mut [u8], pattern: u8) {
-    let mut i = 0;
-    while i < lent.len() {
-        lent[i] = pattern;
-        i += 1;
-    }
+    lent.fill(pattern);
 }
 
 // A number of four bytes at a place of an answer's head.

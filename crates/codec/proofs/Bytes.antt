@@ -2,19 +2,20 @@
 -- Assumes nothing.
 use mathlib.Core.Path.{◌≡◌, refl, sym, ◌∙◌, ap, ap₂, subst⁻¹}
 use mathlib.Core.List.{List, [], ◌∷◌, ◌++◌, append_assoc}
-use Prim.Native.Nat.{ℕ, ◌+◌, ◌-◌, ◌*◌, ◌/◌, ◌≤◌, ◌<◌}
+use Prim.Native.Nat.{ℕ, ◌+◌, ◌-◌, ◌*◌, ◌/◌, ◌≤◌, ◌<◌, min}
 use native.Mathlib.Omega.{arith}
+use native.Mathlib.Decide.{dec_lt}
 use native.Mathlib.Numerals.{add-one}
 use native.Mathlib.Nat.{add-zero}
 use borrow.Rule.Slice.PartMut.{put_mid}
 use lib.ListN.{length, get_or, take, drop, set, length-append, length-drop, length-take}
-use lib.Seq.{take-suc, take_at, drop_at, drop-drop, get_or-drop}
+use lib.Seq.{take_all, take-suc, take_at, drop_at, drop-drop, get_or-drop}
 use Rattle.laws.proofs.Parts.{rest_lent, rest_back}
-use Rattle.lengths.specs.Lengths.{row_bytes}
-use Rattle.laws.proofs.Tabulated.{length_tabulate}
-use Rattle.laws.proofs.Padded.{filled, length_filled}
-use Rattle.rows.specs.Rows.{Row, row, row_at}
-use Rattle.codec.specs.Codec.{row_of, rows_of, padded, bytes_of_row, bytes_of}
+use Rattle.lengths.specs.Lengths.{row_bytes, most_table_rows}
+use Rattle.figures.specs.Numbers.{tabulate}
+use Rattle.laws.proofs.Tabulated.{length_tabulate, take_tabulate}
+use Rattle.rows.specs.Rows.{Row, row_at}
+use Rattle.codec.specs.Codec.{row_of, rows_of, bytes_of_row, bytes_of}
 
 -- three stores at the front
 pub set_front : (l : List ℕ) (a b c : ℕ) → 3 ≤ length l → set (set (set l 0 a) 1 b) 2 c ≡ a ∷ b ∷ c ∷ drop 3 l
@@ -84,19 +85,23 @@ module _ (rows : List Row) (before : List ℕ) (fits : 3 * length rows ≤ lengt
       is
       (write_at r new l)
 
--- a table that the array holds is its front
-module _ (table : List ℕ) (many : ℕ) (l : length table / row_bytes ≤ many) where
-  pub decoded : take (length table / row_bytes) (padded many (rows_of table)) ≡ rows_of table
-  decoded = filled (row 0 0 0) many (row_of table) (length table / row_bytes) l
-
-  pub length_padded : length (padded many (rows_of table)) ≡ many
-  length_padded = length_filled (row 0 0 0) many (row_of table) (length table / row_bytes) l
-
 pub length_rows_of : (table : List ℕ) → length (rows_of table) ≡ length table / row_bytes
 length_rows_of table = length_tabulate (row_of table) (length table / row_bytes)
 
--- the same of the array that `decode` gives
-pub decoded_front :
-    (table : List ℕ) (rows : List Row) (many : ℕ) → length table / row_bytes ≤ many → rows ≡ padded many (rows_of table) →
-    take (length table / row_bytes) rows ≡ rows_of table
-decoded_front table rows many l e = ap (take (length table / row_bytes)) e ∙ decoded table many l
+-- what is past the most is left out
+pub taken : {A : Type 0} (f : ℕ → A) (m most k : ℕ) → k ≡ min m most → tabulate k f ≡ take most (tabulate m f)
+taken f m most k e = go (dec_lt most m)
+  where
+    go : Dec (most < m) → tabulate k f ≡ take most (tabulate m f)
+    go (yes l) = let q : k ≡ most = omega arith in rw (q, take_tabulate f m most (omega arith))
+    go (no l) =
+        let q : k ≡ m = omega arith in
+        ap (λ (x : ℕ). tabulate x f) q ∙ sym (take_all most (tabulate m f) (omega (arith, length_tabulate f m)))
+
+-- a table of no more rows than the longest is decoded whole
+pub all_decoded :
+    (bytes : List ℕ) → length bytes / row_bytes ≤ most_table_rows →
+    (take most_table_rows (rows_of bytes) ≡ rows_of bytes) × (length (take most_table_rows (rows_of bytes)) ≡ length bytes / row_bytes)
+all_decoded bytes l =
+    let whole : take most_table_rows (rows_of bytes) ≡ rows_of bytes = take_all most_table_rows (rows_of bytes) (omega (arith, length_rows_of bytes)) in
+    (whole, ap length whole ∙ length_rows_of bytes)

@@ -1,13 +1,13 @@
 -- Bytes to rows and back: document 01, "Rows are three bytes each: kind, first, second".
 -- Assumes nothing.
-use Rattle.std.specs.Prelude.{List, [], ◌∷◌, ◌++◌, Bool, cond, ℕ, ◌+◌, ◌*◌, ◌/◌, ◌%◌, leb, length, get_or, drop}
+use Rattle.std.specs.Prelude.{Result, List, [], ◌∷◌, ◌++◌, Bool, cond, ℕ, ◌+◌, ◌*◌, ◌/◌, ◌%◌, leb, length, get_or, drop}
+use Rattle.figures.specs.declared.ByteCount.{ByteCount}
+use Rattle.figures.specs.declared.Refusal.{Refusal}
 use Rattle.figures.specs.declared.Refusal.TheVariants.{ShortOutput}
-use Rattle.figures.specs.Refusals.{Outcome, refusal}
+use Rattle.figures.specs.Refusals.{Outcome, refusal, result_says}
 use Rattle.figures.specs.Refusals.Outcome.{gives}
 use Rattle.lengths.specs.Lengths.{row_bytes}
-use Rattle.figures.specs.Numbers.{tabulate, padded_by}
-use Rattle.codec.specs.declared.Encoded.{Encoded}
-use Rattle.codec.specs.declared.Encoded.TheVariants as answer
+use Rattle.figures.specs.Numbers.{tabulate}
 use Rattle.rows.specs.Rows.{Row, row}
 
 -- row r is the three bytes from three times r on
@@ -18,10 +18,6 @@ row_of bytes r = row (get_or bytes (row_bytes * r) 0) (get_or bytes (row_bytes *
 abbrev pub rows_of : List ℕ → List Row
 rows_of bytes = tabulate (length bytes / row_bytes) (row_of bytes)
 
--- an array of so many rows that starts with these, the rest row 0 0 0
-abbrev pub padded : ℕ → List Row → List Row
-padded = padded_by (row 0 0 0)
-
 -- the bytes of a row, and of rows
 abbrev pub bytes_of_row : Row → List ℕ
 bytes_of_row r = (get_or r 0 0 % 256) ∷ (get_or r 1 0 % 256) ∷ (get_or r 2 0 % 256) ∷ []
@@ -31,9 +27,8 @@ bytes_of [] = []
 bytes_of (r ∷ rs) = bytes_of_row r ++ bytes_of rs
 
 -- what writing rows into lent bytes answers: the bytes written, or 14 where they do not fit
-abbrev pub encoded_says : Encoded → Outcome ℕ
-encoded_says (answer.Written b) = gives b.0
-encoded_says (answer.Refused r) = refusal r
+abbrev pub encoded_says : Result ByteCount Refusal → Outcome ℕ
+encoded_says = result_says (λ b. b.0)
 
 abbrev pub fits : List Row → ℕ → Bool
 fits rows room = leb (length rows) (room / row_bytes)

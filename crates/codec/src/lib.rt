@@ -1,50 +1,33 @@
 // Formula rows decoded from bytes, and encoded back.
 #![tactic(auto)]
 
-ghost use Rattle.std.specs.Prelude.{◌≡◌, length, drop, ◌++◌, ◌≤◌, ◌<◌, min};
+ghost use Rattle.std.specs.Prelude.{◌≡◌, length, take, drop, ◌++◌, ◌≤◌};
 ghost use Rattle.lengths.specs.Lengths.{most_table_rows};
-ghost use Rattle.codec.specs.Codec.{rows_of, padded, row_of, bytes_of_row, encoded_says, encode_of, encoded};
+ghost use Rattle.codec.specs.Codec.{rows_of, row_of, bytes_of_row, encoded_says, encode_of, encoded};
 
+use arrayvec::ArrayVec;
 use figures::{ByteCount, Refusal};
-use lengths::Table;
-
-// What writing rows into lent bytes answers.
-#[derive(Clone, Copy)]
-pub enum Encoded {
-    Written(ByteCount),
-    Refused(Refusal),
-}
-
-fn wide(byte: u8) -> u16
-    ensures { result ≡ byte }
-{
-    byte as u16
-}
+use lengths::{ROW_BYTES, TABLE_ROWS};
 
 // The row that starts at the first byte lent.
-fn row_of(bytes: &[u8]) -> [u16; 3]
+pub fn row_of(bytes: &[u8]) -> [u16; 3]
     requires { 3 ≤ length bytes.now }
     ensures { result ≡ row_of bytes.now 0 }
 {
-    [wide(bytes[0]), wide(bytes[1]), wide(bytes[2])]
+    [
+        u16::from(bytes[0]),
+        u16::from(bytes[1]),
+        u16::from(bytes[2]),
+    ]
 }
 
-fn least(a: usize, b: usize) -> usize
-    ensures { result ≡ min a b }
+// The rows of a table's bytes, or as many as the longest table has.
+pub fn decode(bytes: &[u8]) -> ArrayVec<[u16; 3], TABLE_ROWS>
+    ensures { result.items ≡ take most_table_rows (rows_of bytes.now) }
 {
-    if a < b { a } else { b }
-}
-
-// The rows of a table's bytes, as many as an array of the longest table holds, and rows of zeros after them.
-pub fn decode(bytes: &[u8]) -> [[u16; 3]; Table::ROWS]
-    ensures { result ≡ padded most_table_rows (rows_of bytes.now) }
-{
-    let mut rows = [[0; 3]; Table::ROWS];
-    let count = least(bytes.len() / Table::ROW_BYTES, Table::ROWS);
-    let mut r = 0;
-    while r < count {
-        rows[r] = row_of(&bytes[Table::ROW_BYTES * r..]);
-        r += 1;
+    let mut rows = ArrayVec::new();
+    for r in 0..(bytes.len() / ROW_BYTES).min(TABLE_ROWS) {
+        rows.push(row_of(&bytes[ROW_BYTES * r..]));
     }
     rows
 }
@@ -60,17 +43,15 @@ fn put_row(row: [u16; 3], out: &mut [u8])
 }
 
 // Writes rows as bytes at the front of what is lent; 14 where they do not fit.
-pub fn encode(rows: &[[u16; 3]], out: &mut [u8]) -> Encoded
+pub fn encode(rows: &[[u16; 3]], out: &mut [u8]) -> Result<ByteCount, Refusal>
     ensures result_value { encoded_says result ≡ encode_of rows.now (length out.old) }
     ensures out_after { out.new ≡ encoded rows.now out.old }
 {
-    if out.len() / Table::ROW_BYTES < rows.len() {
-        return Encoded::Refused(Refusal::ShortOutput);
+    if out.len() / ROW_BYTES < rows.len() {
+        return Err(Refusal::ShortOutput);
     }
-    let mut r = 0;
-    while r < rows.len() {
-        put_row(rows[r], &mut out[Table::ROW_BYTES * r..]);
-        r += 1;
+    for (r, row) in rows.iter().enumerate() {
+        put_row(*row, &mut out[ROW_BYTES * r..]);
     }
-    Encoded::Written(ByteCount(Table::ROW_BYTES * r))
+    Ok(ByteCount(ROW_BYTES * rows.len()))
 }

@@ -1,36 +1,51 @@
 // The column engine: all rows at one step, from the last step to the first.
 #![tactic(auto)]
 
-ghost use Rattle.std.specs.Prelude.{◌≡◌, ◌<◌, length};
+ghost use Rattle.std.specs.Prelude.{◌≡◌, ℕ, ◌<◌, ◌≤◌, length, get_or};
 ghost use Rattle.lengths.specs.Lengths.{most_table_rows};
+ghost use Rattle.rows.specs.declared.Kind.TheVariants.{False};
+ghost use Rattle.rows.specs.Rows.{kind, row_at};
 ghost use Rattle.signals.specs.Truth.{verdict_of};
 ghost use Rattle.signals.specs.Column.{Cells, Fit, own_by, reading_of};
 
 use figures::{ConditionNumber, RowNumber, StepNumber};
-use lengths::Table;
-use signals::{Flip, Reads};
+use lengths::TABLE_ROWS;
+use rows::Kind;
+use signals::Reads;
+
+// The kind of each row, read once and not at each step.
+fn kinds_of(rows: &[[u16; 3]]) -> [Kind; TABLE_ROWS]
+    requires { length rows.now ≤ most_table_rows }
+    ensures { (r : ℕ) → r < length rows.now → get_or result r False ≡ kind (row_at rows.now r) }
+{
+    let mut kinds = [Kind::Unknown; TABLE_ROWS];
+    for (r, row) in rows.iter().enumerate() {
+        kinds[r] = Kind::from(row[0]);
+    }
+    kinds
+}
 
 // The column of the step in hand, from what is read at it and the column of the step after it.
 fn column(
     rows: &[[u16; 3]],
+    kinds: &[Kind; TABLE_ROWS],
     reads: Reads,
-    after: &[bool; Table::ROWS],
+    after: &[bool; TABLE_ROWS],
     last: bool,
-    here: &mut [bool; Table::ROWS],
+    here: &mut [bool; TABLE_ROWS],
 )
     requires fit { Fit rows.now }
+    requires kinds { (r : ℕ) → r < length rows.now → get_or kinds.now r False ≡ kind (row_at rows.now r) }
     requires here_len { length here.old ≡ most_table_rows }
     ensures here_len_2 { length here.new ≡ most_table_rows }
     ensures cells { Cells rows.now (own_by rows.now reads) after.now last here.new (length rows.now) }
 {
-    let mut r = 0;
-    while r < rows.len() {
-        let row = rows[r];
-        let first = readings::index_of(row[1]);
-        let second = readings::index_of(row[2]);
+    for (r, row) in rows.iter().enumerate() {
+        let first = usize::from(row[1]);
+        let second = usize::from(row[2]);
         let own = readings::read(reads, ConditionNumber(first), RowNumber(r));
         here[r] = signals::cell(
-            row[0],
+            kinds[r],
             own,
             here[first],
             here[second],
@@ -38,24 +53,22 @@ fn column(
             after[r],
             last,
         );
-        r += 1;
     }
 }
 
 // The verdict of a formula over a run, from the last step to the first; one row may read a lent sequence, a byte a step, not 0
 // for true.
-pub fn judge(rows: &[[u16; 3]], run: &[u32], flip: Flip, sequence: &[u8]) -> bool
+pub fn judge(rows: &[[u16; 3]], run: &[u32], flip: Option<RowNumber>, sequence: &[u8]) -> bool
     requires { Fit rows.now × (0 < length rows.now) × (0 < length run.now) }
     ensures { result ≡ verdict_of rows.now (reading_of rows.now run.now flip sequence.now) (length run.now) }
 {
     let steps = run.len();
-    let mut here = [false; Table::ROWS];
-    let mut after = [false; Table::ROWS];
-    let mut i = steps;
-    while 0 < i {
-        i -= 1;
+    let kinds = kinds_of(rows);
+    let mut here = [false; TABLE_ROWS];
+    let mut after = [false; TABLE_ROWS];
+    for i in (0..steps).rev() {
         let reads = readings::reads_at(run[i], flip, sequence, StepNumber(i));
-        column(rows, reads, &after, i + 1 == steps, &mut here);
+        column(rows, &kinds, reads, &after, i + 1 == steps, &mut here);
         after = here;
     }
     after[rows.len() - 1]

@@ -29,7 +29,6 @@ pub requirement_noted :
     RowNoted marks runs q (length rows) before after → RequirementNoted rows runs words q before after
 requirement_noted {rows} {words} {runs} right h =
     record {
-      same_length = h.same_length;
       here = λ p l. h.here p l ∙ some_same runs (λ j g. right p j l g) ∙ some_and (condition_at rows p) runs 0 (covered_of rows words p);
       others = h.others;
     }

@@ -7,10 +7,10 @@ ghost use Rattle.figures.specs.Numbers.{lowest};
 ghost use Rattle.layout.specs.Layout.{form1, form_in, items_in, contents_end, start_in, count_in, unit_of, most_of, body_size, entry_right};
 ghost use Rattle.layout.specs.Checks.{range_of, counts_right, counts_of, contents_found, contents_of_file};
 
-use figures::{ByteCount, ByteOffset, Check, ConditionCount, Refusal, RequirementCount, RunCount};
-use layout::{Entries, Form, RequirementRange};
-use lengths::{Requirement, Run, Table};
-use limits::{Suite, SuiteAnswer};
+use figures::{ByteCount, ByteOffset, ConditionCount, Refusal, RequirementCount, RunCount};
+use layout::{Form, RequirementRange};
+use lengths::{REQUIREMENT_ROWS, ROW_BYTES, Run};
+use limits::Suite;
 
 // Where entry k says that its body starts.
 pub fn start_of(file: &[u8], k: usize) -> usize
@@ -33,7 +33,7 @@ fn unit_of(file: &[u8], k: usize) -> usize
     ensures { (result ≡ unit_of form1 file.now k) × (result ≤ 4) }
 {
     if k < little::byte_at(file, 2) {
-        Table::ROW_BYTES
+        ROW_BYTES
     } else {
         Form::WORD_BYTES
     }
@@ -44,7 +44,7 @@ fn most_of(file: &[u8], k: usize) -> usize
     ensures { result ≡ most_of form1 file.now k }
 {
     if k < little::byte_at(file, 2) {
-        Requirement::ROWS
+        REQUIREMENT_ROWS
     } else {
         Run::STEPS
     }
@@ -63,7 +63,7 @@ fn entry_right(file: &[u8], k: usize, begin: usize) -> bool
     ensures { result ≡ (eqb (start_in form1 file.now k) begin && within 1 (most_of form1 file.now k) (count_in form1 file.now k)) }
 {
     let count = count_of(file, k);
-    (start_of(file, k) == begin) & ((1 <= count) & (count <= most_of(file, k)))
+    start_of(file, k) == begin && limits::within(1, most_of(file, k), count)
 }
 
 fn items_of(file: &[u8]) -> usize
@@ -79,20 +79,18 @@ fn contents_end(file: &[u8]) -> usize
 }
 
 // Goes through the entries: each body must begin where the one before it ended.
-fn contents_of(file: &[u8]) -> Entries
+#[tactic(auto, using(laws::proofs::Lowest::passed_all), unfolding(layout::specs::Layout::must_begin))]
+fn contents_of(file: &[u8]) -> Result<ByteOffset, Refusal>
     ensures { result ≡ contents_found form1 file.now (lowest (items_in file.now) 0 (entry_right form1 file.now)) }
 {
-    let items = items_of(file);
     let mut begin = contents_end(file);
-    let mut k = 0;
-    while k < items {
+    for k in 0..items_of(file) {
         if !entry_right(file, k, begin) {
-            return Entries::Wrong(ByteOffset(Form::HEAD_BYTES + Form::ENTRY_BYTES * k));
+            return Err(Refusal::Entry(ByteOffset(Form::HEAD_BYTES + Form::ENTRY_BYTES * k)));
         }
         begin += body_size(file, k);
-        k += 1;
     }
-    Entries::End(ByteOffset(begin))
+    Ok(ByteOffset(begin))
 }
 
 // Whether the counts in the head are within their limits.
@@ -100,8 +98,8 @@ fn counts_right(file: &[u8], range: RequirementRange) -> bool
     ensures { result ≡ counts_right (range_of range) file.now }
 {
     limits::within(1, Suite::CONDITIONS, little::byte_at(file, 1))
-        & (limits::within(range.least.0, range.most.0, little::byte_at(file, 2))
-            & limits::within(1, Suite::RUNS, little::byte_at(file, 3)))
+        && limits::within(range.least.0, range.most.0, little::byte_at(file, 2))
+        && limits::within(1, Suite::RUNS, little::byte_at(file, 3))
 }
 
 // The counts in the head.
@@ -134,28 +132,23 @@ fn ends_at(file: &[u8], end: ByteOffset) -> bool
 }
 
 // Refusals 1 to 6 of a file, else the counts in its head.
-pub fn check_contents(file: &[u8], range: RequirementRange) -> SuiteAnswer
+#[tactic(auto, unfolding(layout::specs::Checks::contents_of_file))]
+pub fn check_contents(file: &[u8], range: RequirementRange) -> Result<Suite, Refusal>
     ensures { suite_says result ≡ contents_of_file form1 (range_of range) file.now }
 {
-    if let Check::Refused(r) = Suite::file(ByteCount(file.len())) {
-        return SuiteAnswer::Refused(r);
-    }
+    Suite::file(ByteCount(file.len()))?;
     if !form_right(file) {
-        return SuiteAnswer::Refused(Refusal::Form);
+        return Err(Refusal::Form);
     }
     if !counts_right(file, range) {
-        return SuiteAnswer::Refused(Refusal::Counts);
+        return Err(Refusal::Counts);
     }
     if !contents_inside(file) {
-        return SuiteAnswer::Refused(Refusal::ContentsCut);
+        return Err(Refusal::ContentsCut);
     }
-    match contents_of(file) {
-        Entries::Wrong(at) => SuiteAnswer::Refused(Refusal::Entry(at)),
-        Entries::End(at) => {
-            if !ends_at(file, at) {
-                return SuiteAnswer::Refused(Refusal::FileEnd);
-            }
-            SuiteAnswer::Made(counts_of(file))
-        }
+    let end = contents_of(file)?;
+    if !ends_at(file, end) {
+        return Err(Refusal::FileEnd);
     }
+    Ok(counts_of(file))
 }

@@ -5,75 +5,54 @@ ghost use Rattle.std.specs.Prelude.{◌≡◌, ◌≤◌, ◌<◌, length};
 ghost use Rattle.lengths.specs.Lengths.{most_requirement_rows};
 ghost use Rattle.bench.specs.Longest.{note_count};
 ghost use Rattle.rows.specs.Checks.{occurrences};
-ghost use Rattle.layout.specs.Layout.{form1, requirements_in};
+ghost use Rattle.layout.specs.Layout.{form1};
 ghost use Rattle.layout.specs.Checks.{requirement_rows_in};
 ghost use Rattle.bench.specs.Coverage.{size, sum};
 ghost use Rattle.bench.specs.Tables.{noted};
-ghost use Rattle.bench.specs.Files.{RequirementsReady};
 
-use bench::Notes;
-use figures::{OccurrenceCount, RequirementCount, RequirementNumber, RowNumber};
+use bench::{Notes, Requirements};
+use figures::{OccurrenceCount, RequirementNumber, RowNumber};
 
 // How many occurrences requirement q has.
-fn occurrences_of(file: &[u8], q: RequirementNumber) -> usize
-    requires { RequirementsReady file.now × (q.0 < requirements_in file.now) }
-    ensures { (result ≡ length (occurrences (requirement_rows_in form1 file.now q.0))) × (result ≤ most_requirement_rows) }
+fn occurrences_of(requirements: Requirements, q: RequirementNumber) -> usize
+    requires { q.0 < requirements.many.0 }
+    ensures { (result ≡ length (occurrences (requirement_rows_in form1 requirements.entry.file.now q.0))) × (result ≤ most_requirement_rows) }
 {
-    let many = file_rows::row_count(file, q).0;
-    let mut count = 0;
-    let mut p = 0;
-    while p < many {
-        count += rows::one_if(file_rows::is_occurrence(file, q, RowNumber(p)));
-        p += 1;
-    }
-    count
+    let many = file_rows::row_count(requirements, q).0;
+    (0..many)
+        .filter(|p| file_rows::is_occurrence(requirements.file, q, RowNumber(*p)))
+        .count()
 }
 
 // How many rows of requirement q are noted.
-fn noted_of(file: &[u8], q: RequirementNumber, notes: &[bool; Notes::MANY]) -> usize
-    requires { RequirementsReady file.now × (q.0 < requirements_in file.now) }
-    ensures { (result ≡ size (length (requirement_rows_in form1 file.now q.0)) (noted notes.now q.0)) × (result ≤ most_requirement_rows) }
+fn noted_of(requirements: Requirements, q: RequirementNumber, notes: &Notes) -> usize
+    requires { q.0 < requirements.many.0 }
+    ensures { (result ≡ size (length (requirement_rows_in form1 requirements.entry.file.now q.0)) (noted notes.now.cells q.0)) × (result ≤ most_requirement_rows) }
 {
-    let many = file_rows::row_count(file, q).0;
-    let mut count = 0;
-    let mut p = 0;
-    while p < many {
-        count += rows::one_if(noting::is_noted(notes, q, RowNumber(p)));
-        p += 1;
-    }
-    count
+    let many = file_rows::row_count(requirements, q).0;
+    (0..many)
+        .filter(|p| notes.is_noted(q, RowNumber(*p)))
+        .count()
 }
 
 // How many occurrences a file's requirements have together.
-pub fn all_occurrences(file: &[u8], requirements: RequirementCount) -> OccurrenceCount
-    requires { RequirementsReady file.now × (requirements.0 ≡ requirements_in file.now) }
-    ensures { (result.0 ≡ sum requirements.0 (λ q. length (occurrences (requirement_rows_in form1 file.now q)))) × (result.0 ≤ note_count) }
+pub fn all_occurrences(requirements: Requirements) -> OccurrenceCount
+    ensures { (result.0 ≡ sum requirements.entry.many.0 (λ q. length (occurrences (requirement_rows_in form1 requirements.entry.file.now q)))) × (result.0 ≤ note_count) }
 {
-    let many = requirements.0;
     let mut total = 0;
-    let mut q = 0;
-    while q < many {
-        total += occurrences_of(file, RequirementNumber(q));
-        q += 1;
+    for q in 0..requirements.many.0 {
+        total += occurrences_of(requirements, RequirementNumber(q));
     }
     OccurrenceCount(total)
 }
 
 // How many rows of a file's requirements are noted.
-pub fn all_noted(
-    file: &[u8],
-    requirements: RequirementCount,
-    notes: &[bool; Notes::MANY],
-) -> OccurrenceCount
-    requires { RequirementsReady file.now × (requirements.0 ≡ requirements_in file.now) }
-    ensures { (result.0 ≡ sum requirements.0 (λ q. size (length (requirement_rows_in form1 file.now q)) (noted notes.now q))) × (result.0 ≤ note_count) }
+pub fn all_noted(requirements: Requirements, notes: &Notes) -> OccurrenceCount
+    ensures { (result.0 ≡ sum requirements.entry.many.0 (λ q. size (length (requirement_rows_in form1 requirements.entry.file.now q)) (noted notes.now.cells q))) × (result.0 ≤ note_count) }
 {
-    let many = requirements.0;
     let mut total = 0;
-    let mut q = 0;
-    while q < many {
-        total += noted_of(file, RequirementNumber(q), notes);
-        q += 1;
+    for q in 0..requirements.many.0 {
+        total += noted_of(requirements, RequirementNumber(q), notes);
     }
     OccurrenceCount(total)
 }

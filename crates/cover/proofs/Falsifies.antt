@@ -3,7 +3,7 @@
 use mathlib.Core.Path.{◌≡◌, sym, ◌∙◌, ap}
 use mathlib.Core.Bool.{Bool, false, So, cond}
 use mathlib.Core.List.{List}
-use mathlib.Core.Option.{Option, some}
+use Rattle.std.specs.Prelude.{Option, Some}
 use Prim.Native.Nat.{ℕ, ◌<◌}
 use lib.ListN.{length, get_or, take, drop, length-replicate}
 use lib.Seq.{take_at}
@@ -20,7 +20,6 @@ use Rattle.cover.specs.Answers.{witness_of, lent_after}
 use Rattle.coverage.specs.Coverage.{witness_bytes}
 use Rattle.flips.proofs.Decide.{covered_means}
 use Rattle.cover.proofs.Given.{witness_falsifies, given_covered}
-use Rattle.cover.proofs.Lent.{Answered}
 
 module _ (requirement run : List ℕ) (conditions occurrence : ℕ) (out : List ℕ) where
   abbrev rows : List Row
@@ -39,7 +38,7 @@ module _ (requirement run : List ℕ) (conditions occurrence : ℕ) (out : List 
   abbrev verdict : List ℕ → Bool
   verdict read = verdict_of rows (flip p (sequence_of read) (reads_of rows run)) (length run)
 
-  pub falsifies : (n : ℕ) → says ≡ gives (some n) → verdict (take n (lent_after says bytes out)) ≡ false
+  pub falsifies : (n : ℕ) → says ≡ gives (Some n) → verdict (take n (lent_after says bytes out)) ≡ false
   falsifies n e =
       let (taken, (run_taken, (there, (covers, (room, steps))))) = (given_covered requirement run conditions occurrence (length out) n).0 e in
       let at : (p < length rows) × So (condition_at rows p) = occurrence_condition rows occurrence (sym (occurrence_there rows occurrence there)) in
@@ -50,6 +49,6 @@ module _ (requirement run : List ℕ) (conditions occurrence : ℕ) (out : List 
 
   -- so the third promise of `witness` follows from the other two
   pub falsified :
-      {o : Outcome (Option ℕ)} {after : List ℕ} → Answered bytes out says o after →
-      (o ≡ says) × ((after ≡ lent_after says bytes out) × ((n : ℕ) → o ≡ gives (some n) → verdict (take n after) ≡ false))
-  falsified h = (h.0, (h.1, λ n e. ap (λ x. verdict (take n x)) h.1 ∙ falsifies n (sym h.0 ∙ e)))
+      {o : Outcome (Option ℕ)} {after : List ℕ} → o ≡ says → after ≡ lent_after says bytes out → (n : ℕ) → o ≡ gives (Some n) →
+      verdict (take n after) ≡ false
+  falsified h l n e = ap (λ x. verdict (take n x)) l ∙ falsifies n (sym h ∙ e)

@@ -5,7 +5,7 @@ use mathlib.Core.Logic.Iff
 use mathlib.Core.Logic.{◌↔◌}
 use mathlib.Core.Bool.{Bool, true, false, cond, So, false≢true}
 use mathlib.Core.List.{List}
-use mathlib.Core.Option.{Option, none, some}
+use Rattle.std.specs.Prelude.{Result, Option, None, Some}
 use Prim.Native.Nat.{ℕ, ◌≤◌, ◌<◌}
 use native.Mathlib.Omega.{arith}
 use borrow.Author.Tests.{not-true, leb-true, le-leb}
@@ -13,6 +13,8 @@ use lib.Dec.{leb}
 use lib.ListN.{length, get_or}
 use Rattle.figures.specs.declared.Place.{Place}
 use Rattle.figures.specs.declared.Place.TheVariants as place
+use Rattle.figures.specs.declared.ByteCount.{ByteCount}
+use Rattle.figures.specs.declared.Refusal.{Refusal}
 use Rattle.figures.specs.declared.Refusal.TheVariants.{StrayBit, ShortOutput}
 use Rattle.figures.specs.declared.StepPlace.TheVariants as step_place
 use Rattle.figures.specs.Refusals.{Outcome, printed_place, ◌then◌}
@@ -23,7 +25,7 @@ use Rattle.laws.proofs.Given.{not_both, Beyond, refused_when, over_means, given_
 use Rattle.laws.proofs.Lowest.{Holds, Lowest}
 use Rattle.laws.proofs.Order.{Passes, Numbered, Never, instead, numbered_never, never_by, never_then, skip, skip_by, skip_never, stop, stop_by, passes, passes_by, both_pass, then_assoc, test_numbered, test_gives, lowest_numbered, lowest_passes, lowest_refused}
 use Rattle.laws.proofs.Passed.{Within, run_numbered, run_passes}
-use Rattle.laws.proofs.Unique.{unique, read_back, read_refusal}
+use Rattle.laws.proofs.Unique.{result_unique}
 use Rattle.rows.specs.Rows.{Row, row_at}
 use Rattle.codec.specs.Codec.{rows_of}
 use Rattle.rows.specs.Checks.{is_condition, IsRequirement, requirement_sized, requirement_rows, occurrences, occurrence_of}
@@ -32,25 +34,24 @@ use Rattle.row_laws.proofs.Taken.{taken, Taken, taken_passes, never_taken}
 use Rattle.signals.specs.Truth.{Reading, reads_of, verdict_of, word_sound, lowest_stray, sequence_of}
 use Rattle.run_checks.specs.RunChecks.{run_checked}
 use Rattle.signal_laws.proofs.Bools.{right}
-use Rattle.cover.specs.declared.Witnessed.{Witnessed}
-use Rattle.cover.specs.declared.Witnessed.TheVariants as witness
 use Rattle.coverage.specs.Coverage.{flip, Covered, covered}
-use Rattle.cover.specs.Answers.{witness_says, room_for, pair_says, witness_of}
+use Rattle.cover.specs.Answers.{bytes_said, witness_says, room_for, pair_says, witness_of}
 use Rattle.coverage.specs.Coverage.{witness_bytes}
 use Rattle.flips.proofs.Decide.{covered_means, covered_by_bytes}
 
 -- two answers that say the same are equal
-abbrev given : Option ℕ → Witnessed
-given none = witness.Uncovered
-given (some bytes) = witness.Covered (record { 0 = bytes })
+given : Option ℕ → Option ByteCount
+given None = None
+given (Some bytes) = Some (record { 0 = bytes })
 
-pub witness_unique : {a b : Witnessed} {o : Outcome (Option ℕ)} → witness_says a ≡ o → witness_says b ≡ o → a ≡ b
-witness_unique = unique given witness.Refused witness_says read
+pub witness_unique :
+    {a b : Result (Option ByteCount) Refusal} {o : Outcome (Option ℕ)} → witness_says a ≡ o → witness_says b ≡ o → a ≡ b
+unfolding given
+witness_unique = result_unique bytes_said given read
   where
-    read : (a : Witnessed) → read_back given witness.Refused (witness_says a) ≡ a
-    read (witness.Covered bytes) = refl
-    read witness.Uncovered = refl
-    read (witness.Refused r) = read_refusal given witness.Refused r
+    read : (a : Option ByteCount) → given (bytes_said a) ≡ a
+    read (Some bytes) = refl
+    read None = refl
 
 -- "makes it false": the witness of a covered pair, read by the occurrence
 pub witness_falsifies :
@@ -60,7 +61,7 @@ pub witness_falsifies :
 witness_falsifies rows is p p_in p_cond n some_step reads c =
     not-true _ (right (verdict_of rows reads n) _ (sym (covered_by_bytes rows is p p_in p_cond n some_step reads) ∙ c))
 
-none_some : {n : ℕ} → gives none ≡ gives (some n) → ⊥
+none_some : {n : ℕ} → gives None ≡ gives (Some n) → ⊥
 none_some e = let z : ◌≡◌ {A = ℕ} 0 1 = cc in omega arith
 
 -- the answer for a pair, by its coverage
@@ -74,35 +75,35 @@ module _ (rows : List Row) (run : List ℕ) (room p : ℕ) where
   abbrev IsCovered : Type 0
   IsCovered = Covered rows (reads_of rows run) (length run) p
 
-  asked : {o : Outcome (Option ℕ)} → (gives none ≡ o → ⊥) → (pair_says rows run room p ≡ o) ↔ (IsCovered × (room_for (length run) room ≡ o))
+  asked : {o : Outcome (Option ℕ)} → (gives None ≡ o → ⊥) → (pair_says rows run room p ≡ o) ↔ (IsCovered × (room_for (length run) room ≡ o))
   asked {o} other = Iff.trans (go test) (Iff.and (covered_means rows (reads_of rows run) (length run) p) Iff.rfl)
     where
-      go : (b : Bool) → (cond b (room_for (length run) room) (gives none) ≡ o) ↔ (So b × (room_for (length run) room ≡ o))
+      go : (b : Bool) → (cond b (room_for (length run) room) (gives None) ≡ o) ↔ (So b × (room_for (length run) room ≡ o))
       go true = (λ e. (refl, e), λ h. h.1)
       go false = (λ e. absurd (other e), λ h. absurd (false≢true h.0))
 
   never_pair : (n : ℕ) → n < 14 → Never n (pair_says rows run room p)
   never_pair n l q e =
-      numbered_never n _ (test_numbered (some (length run)) ShortOutput enough) (λ e. omega arith) q ((asked (λ g. not_both g refl)).0 e).1
+      numbered_never n _ (test_numbered (Some (length run)) ShortOutput enough) (λ e. omega arith) q ((asked (λ g. not_both g refl)).0 e).1
 
   pair_14 : (pair_says rows run room p ≡ refused 14 place.None) ↔ (IsCovered × (room < length run))
   pair_14 =
       Iff.trans (asked (λ g. not_both g refl))
-      (Iff.and Iff.rfl (Iff.trans (refused_when (some (length run)) ShortOutput enough) (over_means (length run) room)))
+      (Iff.and Iff.rfl (Iff.trans (refused_when (Some (length run)) ShortOutput enough) (over_means (length run) room)))
 
-  pair_covered_lem : (n : ℕ) → (pair_says rows run room p ≡ gives (some n)) ↔ (IsCovered × ((length run ≤ room) × (length run ≡ n)))
+  pair_covered_lem : (n : ℕ) → (pair_says rows run room p ≡ gives (Some n)) ↔ (IsCovered × ((length run ≤ room) × (length run ≡ n)))
   pair_covered_lem n =
       Iff.trans (asked none_some)
       (Iff.and Iff.rfl
-      (Iff.trans (test_gives (some (length run)) ShortOutput enough (some n))
-      (Iff.and (leb-true _ _, le-leb _ _) (λ e. cc, λ e. ap some e))))
+      (Iff.trans (test_gives (Some (length run)) ShortOutput enough (Some n))
+      (Iff.and (leb-true _ _, le-leb _ _) (λ e. cc, λ e. ap Some e))))
 
-  pair_uncovered : (pair_says rows run room p ≡ gives none) ↔ (IsCovered → ⊥)
+  pair_uncovered : (pair_says rows run room p ≡ gives None) ↔ (IsCovered → ⊥)
   pair_uncovered = Iff.trans (go test) (Iff.not (covered_means rows (reads_of rows run) (length run) p))
     where
-      go : (b : Bool) → (cond b (room_for (length run) room) (gives none) ≡ gives none) ↔ (So b → ⊥)
+      go : (b : Bool) → (cond b (room_for (length run) room) (gives None) ≡ gives None) ↔ (So b → ⊥)
       go true = (
-        λ e. absurd (none_some (ap gives (sym ((test_gives (some (length run)) ShortOutput enough none).0 e).1))),
+        λ e. absurd (none_some (ap gives (sym ((test_gives (Some (length run)) ShortOutput enough None).0 e).1))),
         λ h. absurd (h refl),
       )
       go false = (λ _. false≢true, λ _. refl)
@@ -214,9 +215,9 @@ module _ (requirement run : List ℕ) (conditions occurrence room : ℕ) where
 
   pub given_covered :
       (n : ℕ) →
-      (answer ≡ gives (some n))
+      (answer ≡ gives (Some n))
       ↔ (Taken conditions requirement × (RunTaken × (There × (IsCoveredBy × ((length run ≤ room) × (length run ≡ n))))))
-  given_covered n = answered (some n) (pair_covered_lem rows run room _ n)
+  given_covered n = answered (Some n) (pair_covered_lem rows run room _ n)
 
-  pub given_uncovered : (answer ≡ gives none) ↔ (Taken conditions requirement × (RunTaken × (There × (IsCoveredBy → ⊥))))
-  given_uncovered = answered none (pair_uncovered rows run room _)
+  pub given_uncovered : (answer ≡ gives None) ↔ (Taken conditions requirement × (RunTaken × (There × (IsCoveredBy → ⊥))))
+  given_uncovered = answered None (pair_uncovered rows run room _)

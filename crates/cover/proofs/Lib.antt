@@ -1,4 +1,3 @@
-pub mod Lent
 pub mod Accepted
 pub mod Given
 pub mod Falsifies

@@ -6,7 +6,8 @@ use Prim.Native.Nat.{ℕ, suc, ◌<◌}
 use native.Mathlib.Omega.{arith}
 use borrow.Author.Tests.{eqb-false}
 use lib.Dec.{eqb}
-use Rattle.rows.specs.Rows.{Kind, Row, kind_number, kind, first, second, fields_of, named}
+use Rattle.rows.specs.declared.Kind.{Kind}
+use Rattle.rows.specs.Rows.{Row, kind_number, kind, first, second, fields_of, named}
 use Rattle.rows.specs.Checks.{All, is_not}
 use Rattle.signals.specs.Signals.{Signal, negation}
 use Rattle.signals.specs.Truth.{row_meaning}

@@ -1,7 +1,6 @@
 -- An encoder log and the travel that it tells: document 02, wish 5. Counts are encoder counts; nothing here is in millimetres or inches.
 -- Assumes nothing.
-use Rattle.std.specs.Prelude.{ℕ, zero, suc, ◌+◌, ◌-◌, ◌*◌, ◌/◌, ◌%◌, cond, not, List, length, ℤ, pos, ◌+ℤ◌, neg_ℤ, ◌==◌, nat_lt}
-use Rattle.std.proofs.Math.Option.{Option}
+use Rattle.std.specs.Prelude.{ℕ, zero, suc, ◌+◌, ◌-◌, ◌*◌, ◌/◌, ◌%◌, cond, not, Option, List, length, ℤ, pos, ◌+ℤ◌, neg_ℤ, ◌==◌, nat_lt}
 use Rattle.figures.specs.Numbers.{lowest}
 use Rattle.little.specs.Little.{little_at}
 

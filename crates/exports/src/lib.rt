@@ -24,7 +24,7 @@ use wire::Answer;
 pub extern "C" fn occov_truth(table: &[u8], run: &[u32], conditions: ConditionCount) -> Answer
     ensures { result ≡ truth_answer (truth_says table.now run.now conditions.0) }
 {
-    wire::of_verdict(truth::truth(table, run, conditions))
+    truth::truth(table, run, conditions).into()
 }
 
 // `trap::trap`: the trap table of an occurrence of a lone requirement.
@@ -38,7 +38,7 @@ pub extern "C" fn occov_trap(
     ensures value { result ≡ written_answer (trap_of requirement.now conditions.0 occurrence.0 (length out.old)) }
     ensures out_after { out.new ≡ trap_lent requirement.now conditions.0 occurrence.0 out.old }
 {
-    wire::of_trapped(trap::trap(requirement, conditions, occurrence, out))
+    trap::trap(requirement, conditions, occurrence, out).into()
 }
 
 // `cover::witness`: whether a lone run covers an occurrence of a lone requirement, with a witness.
@@ -53,7 +53,7 @@ pub extern "C" fn occov_witness(
     ensures value { result ≡ witness_answer (witness_of requirement.now run.now conditions.0 occurrence.0 (length out.old)) }
     ensures out_after { out.new ≡ cover.lent_after (witness_of requirement.now run.now conditions.0 occurrence.0 (length out.old)) (witness_bytes (rows_of requirement.now) (get_or (occurrences (rows_of requirement.now)) occurrence.0 0) (length run.now)) out.old }
 {
-    wire::of_witnessed(cover::witness(requirement, run, conditions, occurrence, out))
+    cover::witness(requirement, run, conditions, occurrence, out).into()
 }
 
 // `listing::list`: the covered pairs of one requirement of a suite file.
@@ -62,7 +62,7 @@ pub extern "C" fn occov_list(file: &[u8], requirement: RequirementNumber, out: &
     ensures value { result ≡ written_answer (list_of file.now requirement.0 (length out.old)) }
     ensures out_after { out.new ≡ lent_after (list_of file.now requirement.0 (length out.old)) (listed file.now requirement.0) out.old }
 {
-    wire::of_output(listing::list(file, requirement, out))
+    listing::list(file, requirement, out).into()
 }
 
 // `sheets::sheet`: the bench sheet of a suite file.
@@ -71,7 +71,7 @@ pub extern "C" fn occov_sheet(file: &[u8], out: &mut [u8]) -> Answer
     ensures value { result ≡ written_answer (sheet_of file.now (length out.old)) }
     ensures out_after { out.new ≡ lent_after (sheet_of file.now (length out.old)) (sheet_of_file file.now) out.old }
 {
-    wire::of_output(sheets::sheet(file, out))
+    sheets::sheet(file, out).into()
 }
 
 // `recorded::take_in`: the run that an encoder log and the conditions' limits make, all in encoder counts.
@@ -80,5 +80,5 @@ pub extern "C" fn occov_take_in(log: &[u8], limits: &[i32], out: &mut [u32]) -> 
     ensures value { result ≡ taken_answer (taken_of log.now limits.now (length out.old)) }
     ensures out_after { out.new ≡ lent_after (taken_of log.now limits.now (length out.old)) (run_made limits.now log.now) out.old }
 {
-    wire::of_taken(recorded::take_in(log, limits, out))
+    recorded::take_in(log, limits, out).into()
 }

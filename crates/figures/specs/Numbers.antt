@@ -1,7 +1,7 @@
 -- Numbers below a count: a list by its places, the numbers that have a property, and the lowest that lacks it.
 -- Assumes nothing.
 use Rattle.std.specs.Prelude.{Bool, cond, List, [], ◌∷◌, ◌++◌, ℕ, zero, suc, ◌-◌, length, take, replicate}
-use Rattle.std.proofs.Math.Option.{Option, none, some}
+use Rattle.std.specs.Prelude.{Option, None, Some}
 use Rattle.figures.specs.declared.Refusal.{Refusal}
 use Rattle.figures.specs.Refusals.{Outcome, refusal}
 use Rattle.figures.specs.Refusals.Outcome.{gives}
@@ -22,10 +22,10 @@ below (suc m) f = below m f ++ cond (f m) (m ∷ []) []
 
 -- "Where one number could have several places, the lowest counts": of the m numbers from i on, the lowest at which f fails
 unfoldable pub lowest : ℕ → ℕ → (ℕ → Bool) → Option ℕ
-lowest zero i f = none
-lowest (suc m) i f = cond (f i) (lowest m (suc i) f) (some i)
+lowest zero i f = None
+lowest (suc m) i f = cond (f i) (lowest m (suc i) f) (Some i)
 
 -- a check that refuses at the lowest place, and passes where there is none
 abbrev pub refused_at : (ℕ → Refusal) → Option ℕ → Outcome (Unit {0})
-refused_at at none = gives tt
-refused_at at (some k) = refusal (at k)
+refused_at at None = gives tt
+refused_at at (Some k) = refusal (at k)

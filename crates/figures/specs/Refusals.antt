@@ -1,14 +1,12 @@
 -- The refusals: document 01, "Answers by number".
 -- Assumes nothing.
-use Rattle.std.specs.Prelude.{ℕ}
+use Rattle.std.specs.Prelude.{ℕ, Result, Ok, Err}
 use Rattle.figures.specs.declared.Place.{Place}
 use Rattle.figures.specs.declared.Place.TheVariants as place
 use Rattle.figures.specs.declared.RowPlace.{RowPlace}
 use Rattle.figures.specs.declared.RowPlace.TheVariants as row_place
 use Rattle.figures.specs.declared.StepPlace.{StepPlace}
 use Rattle.figures.specs.declared.StepPlace.TheVariants as step_place
-use Rattle.figures.specs.declared.Check.{Check}
-use Rattle.figures.specs.declared.Check.TheVariants as check
 use Rattle.figures.specs.declared.Refusal.{Refusal}
 use Rattle.figures.specs.declared.Refusal.TheVariants.{FileBytes, Form, Counts, ContentsCut, Entry, FileEnd, TableLength, UnsoundRow, NotRequirement, RunLength, StrayBit, NoSuch, TrapRows, ShortOutput}
 
@@ -77,7 +75,11 @@ abbrev pub ◌then◌ {ℓ κ} : {A : Type ℓ} {B : Type κ} → Outcome A → 
 (refused n p) then next = refused n p
 (gives a) then next = next a
 
+-- what a result says, of whose value f reads what document 01 has
+abbrev pub result_says : {T A : Type 0} → (T → A) → Result T Refusal → Outcome A
+result_says f (Ok t) = gives (f t)
+result_says f (Err r) = refusal r
+
 -- what a check's answer says
-abbrev pub check_says : Check → Outcome (Unit {0})
-check_says check.Passed = gives tt
-check_says (check.Refused r) = refusal r
+abbrev pub check_says : Result (Unit {0}) Refusal → Outcome (Unit {0})
+check_says = result_says (λ u. tt)

@@ -111,20 +111,6 @@ pub enum Refusal {
     ShortOutput,
 }
 
-// What a check answers that gives nothing.
-#[derive(Clone, Copy)]
-pub enum Check {
-    Passed,
-    Refused(Refusal),
-}
-
-// What an operation answers that writes into lent bytes.
-#[derive(Clone, Copy)]
-pub enum Output {
-    Written(ByteCount),
-    Refused(Refusal),
-}
-
 impl Place {
     // What is printed of a place.
     pub fn printed(self) -> PrintedPlace

@@ -6,10 +6,11 @@ use Prim.Native.Nat.{ℕ, ◌+◌, ◌-◌, ◌*◌, ◌/◌, ◌≤◌, ◌<◌
 use native.Mathlib.Omega.{arith}
 use lib.ListN.{length, take, drop, length-drop}
 use Rattle.lengths.specs.Lengths.{row_bytes}
+use Rattle.laws.proofs.Parts.{rest_lent}
 use Rattle.laws.proofs.Tabulated.{get_d_tabulate}
 use Rattle.rows.specs.Rows.{row_at}
 use Rattle.codec.specs.Codec.{row_of, rows_of}
-use Rattle.codec.proofs.Bytes.{length_rows_of, take_front, row_there}
+use Rattle.codec.proofs.Bytes.{length_rows_of, row_there}
 
 -- of bytes lent that are a requirement's: how many rows they have
 pub rows_of_lem : {lent body : List ℕ} → lent ≡ body → length lent / row_bytes ≡ length (rows_of body)
@@ -23,11 +24,12 @@ module _ {lent body : List ℕ} (e : lent ≡ body) (p : ℕ) (l : p < length (r
   is_row : row_at (rows_of body) p ≡ row_of lent p
   is_row = rw e (get_d_tabulate (row_of body) (length body / row_bytes) p [] (omega (arith, length_rows_of body)))
 
-  pub length_row : length (row_at (rows_of body) p) ≡ row_bytes
-  length_row = rw is_row
+  -- the bytes from where it starts
+  abbrev from_there : List ℕ
+  from_there = take (length lent - row_bytes * p) (drop (row_bytes * p) lent)
 
-  pub row_lent : take (row_bytes * p + row_bytes - row_bytes * p) (drop (row_bytes * p) lent) ≡ row_at (rows_of body) p
-  row_lent =
-      let three : row_bytes * p + row_bytes - row_bytes * p ≡ row_bytes = omega arith in
-      rw (three, is_row)
-      (take_front (drop (row_bytes * p) lent) (omega (arith, inside, length-drop (row_bytes * p) lent)) ∙ row_there lent p)
+  pub three_lent : row_bytes ≤ length from_there
+  three_lent = rw (rest_lent (row_bytes * p) lent) (omega (arith, inside, length-drop (row_bytes * p) lent))
+
+  pub row_lent : row_of from_there 0 ≡ row_at (rows_of body) p
+  row_lent = rw (rest_lent (row_bytes * p) lent) (row_there lent p ∙ sym is_row)

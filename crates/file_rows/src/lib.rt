@@ -10,27 +10,26 @@ ghost use Rattle.layout.specs.Checks.{requirement_rows_in};
 ghost use Rattle.bench.specs.Coverage.{reads_condition};
 ghost use Rattle.bench.specs.Files.{bench_of, RequirementsReady};
 
+use bench::Requirements;
 use figures::{ConditionNumber, RequirementNumber, RowCount, RowNumber};
-use lengths::Table;
+use lengths::ROW_BYTES;
 
 // How many rows requirement q of a file has.
-pub fn row_count(file: &[u8], q: RequirementNumber) -> RowCount
-    requires { RequirementsReady file.now × (q.0 < requirements_in file.now) }
-    ensures { (result.0 ≡ length (requirement_rows_in form1 file.now q.0)) × (result.0 ≤ most_requirement_rows) }
+pub fn row_count(requirements: Requirements, q: RequirementNumber) -> RowCount
+    requires { q.0 < requirements.many.0 }
+    ensures { (result.0 ≡ length (requirement_rows_in form1 requirements.entry.file.now q.0)) × (result.0 ≤ most_requirement_rows) }
 {
-    let body = suite::requirement_bytes(file, q);
-    RowCount(body.len() / Table::ROW_BYTES)
+    let body = suite::requirement_bytes(requirements.file, q);
+    RowCount(body.len() / ROW_BYTES)
 }
 
-// The bytes of row p of requirement q.
-fn row_bytes(file: &[u8], q: RequirementNumber, p: RowNumber) -> &[u8]
+// Row p of requirement q.
+fn row_of(file: &[u8], q: RequirementNumber, p: RowNumber) -> [u16; 3]
     requires { (q.0 < 256) × (p.0 < length (requirement_rows_in form1 file.now q.0)) }
-    ensures { (result.now ≡ row_at (requirement_rows_in form1 file.now q.0) p.0) × (length result.now ≡ 3) }
+    ensures { result ≡ row_at (requirement_rows_in form1 file.now q.0) p.0 }
 {
     let body = suite::requirement_bytes(file, q);
-    let at = Table::ROW_BYTES * p.0;
-    let end = at + Table::ROW_BYTES;
-    &body[at..end]
+    codec::row_of(&body[ROW_BYTES * p.0..])
 }
 
 // Whether row p of requirement q is an occurrence.
@@ -38,8 +37,7 @@ pub fn is_occurrence(file: &[u8], q: RequirementNumber, p: RowNumber) -> bool
     requires { (q.0 < 256) × (p.0 < length (requirement_rows_in form1 file.now q.0)) }
     ensures { result ≡ condition_at (requirement_rows_in form1 file.now q.0) p.0 }
 {
-    let row = row_bytes(file, q, p);
-    row[0] == 2
+    rows::is_condition_row(row_of(file, q, p))
 }
 
 // Whether row p of requirement q is an occurrence that reads condition c.
@@ -47,6 +45,6 @@ pub fn reads_condition(file: &[u8], q: RequirementNumber, p: RowNumber, c: Condi
     requires { (q.0 < 256) × (p.0 < length (requirement_rows_in form1 file.now q.0)) }
     ensures { result ≡ reads_condition (bench_of file.now file.now) c.0 q.0 p.0 }
 {
-    let row = row_bytes(file, q, p);
-    (row[0] == 2) & (row[1] as usize == c.0)
+    let row = row_of(file, q, p);
+    rows::is_condition_row(row) && usize::from(row[1]) == c.0
 }

@@ -10,33 +10,26 @@ ghost use Rattle.flips.specs.Pair.{Pair};
 
 use figures::{RowNumber, StepCount};
 use lengths::Run;
-use signals::Flip;
 
 // Whether a row is "not", kind 3, over row p.
 fn negates(row: [u16; 3], p: RowNumber) -> bool
     ensures { result ≡ (is_not row && eqb (first row) p.0) }
 {
-    (row[0] == 3) & (row[1] as usize == p.0)
+    rows::is_not_row(row) && usize::from(row[1]) == p.0
 }
 
 // Whether "not" stands over row p.
 pub fn under_not(rows: &[[u16; 3]], p: RowNumber) -> bool
     ensures { result ≡ witness_bit rows.now p.0 }
 {
-    let mut found = false;
-    let mut r = 0;
-    while r < rows.len() {
-        found = negates(rows[r], p) | found;
-        r += 1;
-    }
-    found
+    rows.iter().any(|row| negates(*row, p))
 }
 
 // The byte that a witness of the occurrence at row p has at every step.
 pub fn witness_byte(rows: &[[u16; 3]], p: RowNumber) -> u8
     ensures { result ≡ cond (witness_bit rows.now p.0) 1 0 }
 {
-    if under_not(rows, p) { 1 } else { 0 }
+    u8::from(under_not(rows, p))
 }
 
 // Writes one value at the front of what is lent, a byte a step.
@@ -44,12 +37,7 @@ pub fn fill(out: &mut [u8], steps: StepCount, value: u8)
     requires { steps.0 ≤ length out.old }
     ensures { out.new ≡ replicate steps.0 value ++ drop steps.0 out.old }
 {
-    let many = steps.0;
-    let mut i = 0;
-    while i < many {
-        out[i] = value;
-        i += 1;
-    }
+    out[..steps.0].fill(value);
 }
 
 // Whether a run covers the occurrence at row p: where any sequence makes the requirement false the witness does, so no other is tried.
@@ -57,9 +45,9 @@ pub fn covers(rows: &[[u16; 3]], run: &[u32], p: RowNumber) -> bool
     requires { Pair rows.now run.now p.0 }
     ensures { result ≡ covered rows.now (reads_of rows.now run.now) (length run.now) p.0 }
 {
-    if !columns::judge(rows, run, Flip::Nowhere, b"") {
+    if !columns::judge(rows, run, None, b"") {
         return false;
     }
     let sequence = [witness_byte(rows, p); Run::STEPS];
-    !columns::judge(rows, run, Flip::At(p), &sequence[..run.len()])
+    !columns::judge(rows, run, Some(p), &sequence[..run.len()])
 }

@@ -3,12 +3,16 @@
 use mathlib.Core.Path.{◌≡◌, refl, sym, ◌∙◌, ap}
 use mathlib.Core.Bool.{Bool, true, false, cond, So}
 use mathlib.Core.List.{List, [], ◌∷◌, ◌++◌, append_assoc, append-nil}
-use mathlib.Core.Option.{none, some}
+use Rattle.std.specs.Prelude.{slice_get, None, Some}
+use Rattle.std.specs.List.{count_by, filter}
+use Rattle.std.proofs.lemmas.List.Sums.{count_by_more_yes, count_by_more_no, length-filter}
+use Rattle.std.proofs.Math.Seq.{take-length}
 use Prim.Native.Nat.{ℕ, zero, suc, ◌+◌, ◌≤◌, ◌<◌}
 use native.Mathlib.Omega.{arith}
 use native.Mathlib.Numerals.{add-one}
+use Rattle.std.proofs.Math.Nat.{add-zero}
 use native.Mathlib.Decide.{ℕ_discrete}
-use lib.ListN.{length, get_elem?, length-append}
+use lib.ListN.{length, length-append, get_or, take}
 use Rattle.figures.specs.Numbers.{below}
 
 module _ (f : ℕ → Bool) where
@@ -39,22 +43,49 @@ module _ (f : ℕ → Bool) where
           let h = ih (omega arith) in
           (_, ap (λ (x : List ℕ). x ++ cond (f m) (m ∷ []) []) h.1 ∙ append_assoc (below r f) h.0 _)
 
-  element_seam : (xs : List ℕ) (y : ℕ) (ys : List ℕ) → get_elem? (xs ++ y ∷ ys) (length xs) ≡ some y
+  element_seam : (xs : List ℕ) (y : ℕ) (ys : List ℕ) → slice_get (xs ++ y ∷ ys) (length xs) ≡ Some y
   element_seam [] y ys = refl
   element_seam (x ∷ xs) y ys = element_seam xs y ys
 
-  element_past : (xs : List ℕ) (k : ℕ) → length xs ≤ k → get_elem? xs k ≡ none
+  element_past : (xs : List ℕ) (k : ℕ) → length xs ≤ k → slice_get xs k ≡ None
   element_past [] k l = refl
   element_past (x ∷ xs) zero l = absurd (omega arith)
   element_past (x ∷ xs) (suc k) l = element_past xs k (omega arith)
 
   -- the number found after as many others as were wanted; and none where there are too few
-  pub found_at : (m r k : ℕ) → r < m → So (f r) → length (below r f) ≡ k → some r ≡ get_elem? (below m f) k
+  pub found_at : (m r k : ℕ) → r < m → So (f r) → length (below r f) ≡ k → Some r ≡ slice_get (below m f) k
   found_at m r k l h e =
       let rest = below_front (r + 1) m (omega arith) in
       sym
       (rw (rest.1, below_with r h, append_assoc (below r f) (r ∷ []) rest.0, ← e)
       (element_seam (below r f) r rest.0))
 
-  pub found_none : (m k : ℕ) → length (below m f) ≤ k → none ≡ get_elem? (below m f) k
+  pub found_none : (m k : ℕ) → length (below m f) ≤ k → None ≡ slice_get (below m f) k
   found_none m k l = sym (element_past (below m f) k l)
+
+-- as many of a list pass a test as there are places where it passes
+module _ {X : Type 0} (p : X → Bool) (xs : List X) (d : X) where
+  place_counted :
+      (m : ℕ) (b : Bool) → m < length xs → p (get_or xs m d) ≡ b →
+      count_by p (take m xs) ≡ length (below m (λ k. p (get_or xs k d))) →
+      count_by p (take (m + 1) xs) ≡ length (below (m + 1) (λ k. p (get_or xs k d)))
+  place_counted m true l h e =
+      count_by_more_yes p xs m d l h
+      ∙ ap (λ (x : ℕ). x + 1) e
+      ∙ sym (rw h at (length_more (λ k. p (get_or xs k d)) m))
+  place_counted m false l h e =
+      count_by_more_no p xs m d l h
+      ∙ e
+      ∙ sym (rw (h, add-zero) at (length_more (λ k. p (get_or xs k d)) m))
+
+  front_counted : (m : ℕ) → m ≤ length xs → count_by p (take m xs) ≡ length (below m (λ k. p (get_or xs k d)))
+  unfolding below
+  front_counted zero l = refl
+  front_counted (suc m) l =
+      rw add-one at (place_counted m (p (get_or xs m d)) (omega arith) refl (front_counted m (omega arith)))
+
+  pub filter_counted : length (filter p xs) ≡ length (below (length xs) (λ k. p (get_or xs k d)))
+  filter_counted =
+      length-filter p xs
+      ∙ ap (λ (ys : List X). count_by p ys) (sym (take-length xs))
+      ∙ front_counted (length xs) (omega arith)

@@ -16,7 +16,7 @@ use Rattle.figures.specs.declared.Refusal.TheVariants.{FileBytes, Counts, TableL
 use Rattle.figures.specs.Refusals.{Outcome, refusal}
 use Rattle.figures.specs.Refusals.Outcome.{refused, gives}
 use Rattle.limits.specs.Limits.{within, counts_within, suite_of, file_of, most_conditions, most_requirements, most_runs, least_bytes, most_bytes}
-use Rattle.lengths.specs.Lengths.{rows_within, row_bytes, table_of, requirement_of, run_of, most_requirement_rows, most_table_rows, most_steps}
+use Rattle.lengths.specs.Lengths.{rows_within, row_bytes, rows_of, table_of, requirement_of, run_of, most_requirement_rows, most_table_rows, most_steps}
 
 -- a refusal is no value
 pub not_both : {A B : Type 0} {n : ℕ} {p : Place} {a : A} {o : Outcome A} → o ≡ refused n p → o ≡ gives a → B
@@ -95,11 +95,11 @@ length_means most bytes =
     (either_iff (λ h e. h (eq-eqb _ _ e), λ h t. h (eqb-true _ _ t)) (beyond_means 1 most (bytes / row_bytes)))
 
 pub given_7 : (bytes : ℕ) → (table_of bytes ≡ refused 7 place.None) ↔ WrongLength most_table_rows bytes
-unfolding table_of
+unfolding rows_of
 given_7 bytes = Iff.trans (refused_when _ TableLength _) (length_means most_table_rows bytes)
 
 pub given_7_requirement : (bytes : ℕ) → (requirement_of bytes ≡ refused 7 place.None) ↔ WrongLength most_requirement_rows bytes
-unfolding requirement_of
+unfolding rows_of
 given_7_requirement bytes = Iff.trans (refused_when _ TableLength _) (length_means most_requirement_rows bytes)
 
 -- 10

@@ -7,5 +7,4 @@ pub mod Given
 pub mod Order
 pub mod Passed
 pub mod Ascending
-pub mod Padded
 pub mod Lent

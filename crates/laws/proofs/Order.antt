@@ -4,7 +4,7 @@ use mathlib.Core.Path.{◌≡◌, refl, sym, ◌∙◌, ap}
 use mathlib.Core.Logic.Iff
 use mathlib.Core.Logic.{◌↔◌}
 use mathlib.Core.Bool.{Bool, true, false, cond, So, false≢true}
-use mathlib.Core.Option.{Option, none, some}
+use Rattle.std.specs.Prelude.{Option, None, Some}
 use Prim.Native.Nat.{ℕ}
 use native.Mathlib.Omega.{arith}
 use Rattle.figures.specs.declared.Place.{Place}
@@ -124,8 +124,8 @@ module _ (at : ℕ → Refusal) (m : ℕ) (f : ℕ → Bool) where
   lowest_numbered n same k p = go (lowest m 0 f)
     where
       go : (l : Option ℕ) → refused_at at l ≡ refused k p → k ≡ n
-      go none e = not_both e refl
-      go (some j) e = sym (same_number e) ∙ same j
+      go None e = not_both e refl
+      go (Some j) e = sym (same_number e) ∙ same j
 
   pub lowest_passes : Passes (refused_at at (lowest m 0 f)) ↔ Holds f 0 m
   lowest_passes = (
@@ -133,9 +133,9 @@ module _ (at : ℕ → Refusal) (m : ℕ) (f : ℕ → Bool) where
     λ h. (tt, ap (refused_at at) (lowest_none m 0 f (λ k l g. h k l (omega arith)))),
   )
     where
-      go : (l : Option ℕ) → lowest m 0 f ≡ l → refused_at at l ≡ gives tt → lowest m 0 f ≡ none
-      go none q e = q
-      go (some j) q e = not_both refl e
+      go : (l : Option ℕ) → lowest m 0 f ≡ l → refused_at at l ≡ gives tt → lowest m 0 f ≡ None
+      go None q e = q
+      go (Some j) q e = not_both refl e
 
   -- given at a place exactly where it is the lowest that fails, if a place says where it is
   pub lowest_refused :
@@ -149,6 +149,6 @@ module _ (at : ℕ → Refusal) (m : ℕ) (f : ℕ → Bool) where
       same_place : {k l : ℕ} {p q : Place} → ◌≡◌ {A = Outcome (Unit {0})} (refused k p) (refused l q) → p ≡ q
       same_place e = cc
 
-      go : (l : Option ℕ) → lowest m 0 f ≡ l → refused_at at l ≡ refused n (place j) → lowest m 0 f ≡ some j
-      go none q e = not_both e refl
-      go (some k) q e = q ∙ ap some (sym (tells k) ∙ ap where_is (same_place (sym (is k) ∙ e)) ∙ tells j)
+      go : (l : Option ℕ) → lowest m 0 f ≡ l → refused_at at l ≡ refused n (place j) → lowest m 0 f ≡ Some j
+      go None q e = not_both e refl
+      go (Some k) q e = q ∙ ap Some (sym (tells k) ∙ ap where_is (same_place (sym (is k) ∙ e)) ∙ tells j)

@@ -11,7 +11,7 @@ use Rattle.figures.specs.declared.Place.TheVariants as place
 use Rattle.figures.specs.Refusals.Outcome.{refused}
 use Rattle.figures.specs.declared.Refusal.TheVariants.{Counts, TableLength, RunLength}
 use Rattle.limits.specs.Limits.{within, counts_within, suite_of, most_conditions, most_requirements, most_runs}
-use Rattle.lengths.specs.Lengths.{rows_within, row_bytes, table_of, requirement_of, run_of, most_requirement_rows, most_table_rows, most_steps}
+use Rattle.lengths.specs.Lengths.{rows_within, row_bytes, rows_of, table_of, requirement_of, run_of, most_requirement_rows, most_table_rows, most_steps}
 use Rattle.laws.proofs.Given.{within_means, Beyond, given_3}
 use Rattle.laws.proofs.Order.{Passes, Numbered, test_numbered, test_passes}
 
@@ -52,19 +52,19 @@ lone_refused c =
 
 module _ (bytes : ℕ) where
   pub table_numbered : Numbered (table_of bytes) 7
-  unfolding table_of
+  unfolding rows_of
   table_numbered = test_numbered _ TableLength (rows_within most_table_rows bytes)
 
   pub table_passes : Passes (table_of bytes) ↔ RightLength most_table_rows bytes
-  unfolding table_of
+  unfolding rows_of
   table_passes = Iff.trans (test_passes _ TableLength (rows_within most_table_rows bytes)) (length_right most_table_rows bytes)
 
   pub requirement_numbered : Numbered (requirement_of bytes) 7
-  unfolding requirement_of
+  unfolding rows_of
   requirement_numbered = test_numbered _ TableLength (rows_within most_requirement_rows bytes)
 
   pub requirement_passes : Passes (requirement_of bytes) ↔ RightLength most_requirement_rows bytes
-  unfolding requirement_of
+  unfolding rows_of
   requirement_passes = Iff.trans (test_passes _ TableLength (rows_within most_requirement_rows bytes)) (length_right most_requirement_rows bytes)
 
 module _ (steps : ℕ) where

@@ -14,23 +14,15 @@ use Rattle.figures.specs.declared.StepPlace.TheVariants as step_place
 use Rattle.figures.specs.declared.Refusal.{Refusal}
 use Rattle.figures.specs.declared.Refusal.TheVariants.{FileBytes, Form, Counts, ContentsCut, Entry, FileEnd, TableLength, UnsoundRow, NotRequirement, RunLength, StrayBit, NoSuch, TrapRows, ShortOutput}
 use Rattle.limits.specs.declared.Suite.{Suite}
-use Rattle.figures.specs.declared.Check.{Check}
-use Rattle.figures.specs.declared.Check.TheVariants as check
-use Rattle.limits.specs.declared.SuiteAnswer.{SuiteAnswer}
-use Rattle.limits.specs.declared.SuiteAnswer.TheVariants as suite_answer
-use Rattle.lengths.specs.declared.TableAnswer.{TableAnswer}
-use Rattle.lengths.specs.declared.TableAnswer.TheVariants as table_answer
-use Rattle.lengths.specs.declared.RequirementAnswer.{RequirementAnswer}
-use Rattle.lengths.specs.declared.RequirementAnswer.TheVariants as requirement_answer
-use Rattle.lengths.specs.declared.RunAnswer.{RunAnswer}
-use Rattle.lengths.specs.declared.RunAnswer.TheVariants as run_answer
-use Rattle.figures.specs.declared.Output.{Output}
-use Rattle.figures.specs.declared.Output.TheVariants as output
+use Rattle.std.specs.Prelude.{Result, Ok, Err}
+use Rattle.figures.specs.declared.ByteCount.{ByteCount}
+use Rattle.lengths.specs.declared.Rows.{Rows}
+use Rattle.lengths.specs.declared.Run.{Run}
 use Rattle.figures.specs.Outputs.{output_says}
-use Rattle.figures.specs.Refusals.{number_of, place_of, Outcome, refusal, check_says}
+use Rattle.figures.specs.Refusals.{number_of, place_of, Outcome, refusal, result_says, check_says}
 use Rattle.figures.specs.Refusals.Outcome.{refused, gives}
 use Rattle.limits.specs.Limits.{suite_says}
-use Rattle.lengths.specs.Lengths.{table_says, requirement_says, run_says}
+use Rattle.lengths.specs.Lengths.{rows_say, run_says, most_table_rows, most_requirement_rows}
 
 -- two answers that say the same are equal, if what is said can be read back
 pub one_answer :
@@ -94,59 +86,36 @@ module _ {A B : Type 0} (made : A → B) (no : Refusal → B) where
   pub unique : (says : B → Outcome A) → ((b : B) → read_back (says b) ≡ b) → {a b : B} {o : Outcome A} → says a ≡ o → says b ≡ o → a ≡ b
   unique says read = one_answer says read_back read
 
-pub suite_unique : {a b : SuiteAnswer} {o : Outcome Suite} → suite_says a ≡ o → suite_says b ≡ o → a ≡ b
-suite_unique = unique suite_answer.Made suite_answer.Refused suite_says read
+-- a result, whose value can be read back from what f reads of it
+pub result_unique :
+    {T A : Type 0} (f : T → A) (back : A → T) → ((t : T) → back (f t) ≡ t) → {a b : Result T Refusal} {o : Outcome A} →
+    result_says f a ≡ o → result_says f b ≡ o → a ≡ b
+result_unique {T} {A} f back read = unique made Err (result_says f) go
   where
-    read : (a : SuiteAnswer) → read_back suite_answer.Made suite_answer.Refused (suite_says a) ≡ a
-    read (suite_answer.Made s) = refl
-    read (suite_answer.Refused r) = read_refusal suite_answer.Made suite_answer.Refused r
+    made : A → Result T Refusal
+    made a = Ok (back a)
 
-abbrev table_made : ℕ → TableAnswer
-table_made n = table_answer.Made (record { 0 = record { 0 = n } })
+    go : (r : Result T Refusal) → read_back made Err (result_says f r) ≡ r
+    go (Ok t) = ap Ok (read t)
+    go (Err r) = read_refusal made Err r
 
-pub table_unique : {a b : TableAnswer} {o : Outcome ℕ} → table_says a ≡ o → table_says b ≡ o → a ≡ b
-table_unique = unique table_made table_answer.Refused table_says read
-  where
-    read : (a : TableAnswer) → read_back table_made table_answer.Refused (table_says a) ≡ a
-    read (table_answer.Made t) = refl
-    read (table_answer.Refused r) = read_refusal table_made table_answer.Refused r
+pub suite_unique : {a b : Result Suite Refusal} {o : Outcome Suite} → suite_says a ≡ o → suite_says b ≡ o → a ≡ b
+suite_unique = result_unique (λ s. s) (λ s. s) (λ s. refl)
 
-abbrev requirement_made : ℕ → RequirementAnswer
-requirement_made n = requirement_answer.Made (record { 0 = record { 0 = n } })
+pub rows_unique : {most : ℕ} {a b : Result (Rows most) Refusal} {o : Outcome ℕ} → rows_say a ≡ o → rows_say b ≡ o → a ≡ b
+rows_unique = result_unique (λ t. t.0.0) (λ n. record { 0 = record { 0 = n } }) (λ t. refl)
 
-pub requirement_unique : {a b : RequirementAnswer} {o : Outcome ℕ} → requirement_says a ≡ o → requirement_says b ≡ o → a ≡ b
-requirement_unique = unique requirement_made requirement_answer.Refused requirement_says read
-  where
-    read : (a : RequirementAnswer) → read_back requirement_made requirement_answer.Refused (requirement_says a) ≡ a
-    read (requirement_answer.Made t) = refl
-    read (requirement_answer.Refused r) = read_refusal requirement_made requirement_answer.Refused r
+pub table_unique : {a b : Result (Rows most_table_rows) Refusal} {o : Outcome ℕ} → rows_say a ≡ o → rows_say b ≡ o → a ≡ b
+table_unique = rows_unique
 
-abbrev run_made : ℕ → RunAnswer
-run_made n = run_answer.Made (record { 0 = record { 0 = n } })
+pub requirement_unique : {a b : Result (Rows most_requirement_rows) Refusal} {o : Outcome ℕ} → rows_say a ≡ o → rows_say b ≡ o → a ≡ b
+requirement_unique = rows_unique
 
-pub run_unique : {a b : RunAnswer} {o : Outcome ℕ} → run_says a ≡ o → run_says b ≡ o → a ≡ b
-run_unique = unique run_made run_answer.Refused run_says read
-  where
-    read : (a : RunAnswer) → read_back run_made run_answer.Refused (run_says a) ≡ a
-    read (run_answer.Made t) = refl
-    read (run_answer.Refused r) = read_refusal run_made run_answer.Refused r
+pub run_unique : {a b : Result Run Refusal} {o : Outcome ℕ} → run_says a ≡ o → run_says b ≡ o → a ≡ b
+run_unique = result_unique (λ n. n.0.0) (λ n. record { 0 = record { 0 = n } }) (λ n. refl)
 
-abbrev passed : Unit {0} → Check
-passed u = check.Passed
+pub check_unique : {a b : Result (Unit {0}) Refusal} {o : Outcome (Unit {0})} → check_says a ≡ o → check_says b ≡ o → a ≡ b
+check_unique = result_unique (λ u. tt) (λ u. tt) (λ u. refl)
 
-pub check_unique : {a b : Check} {o : Outcome (Unit {0})} → check_says a ≡ o → check_says b ≡ o → a ≡ b
-check_unique = unique passed check.Refused check_says read
-  where
-    read : (a : Check) → read_back passed check.Refused (check_says a) ≡ a
-    read check.Passed = refl
-    read (check.Refused r) = read_refusal passed check.Refused r
-
-abbrev wrote : ℕ → Output
-wrote n = output.Written (record { 0 = n })
-
-pub output_unique : {a b : Output} {o : Outcome ℕ} → output_says a ≡ o → output_says b ≡ o → a ≡ b
-output_unique = unique wrote output.Refused output_says read
-  where
-    read : (a : Output) → read_back wrote output.Refused (output_says a) ≡ a
-    read (output.Written bytes) = refl
-    read (output.Refused r) = read_refusal wrote output.Refused r
+pub output_unique : {a b : Result ByteCount Refusal} {o : Outcome ℕ} → output_says a ≡ o → output_says b ≡ o → a ≡ b
+output_unique = result_unique (λ bytes. bytes.0) (λ n. record { 0 = n }) (λ bytes. refl)

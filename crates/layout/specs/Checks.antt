@@ -1,8 +1,10 @@
 -- The checks of a suite file, 1 to 6, 8, 9 and 11: document 01, "Answers by number".
 -- Assumes nothing.
-use Rattle.std.specs.Prelude.{Bool, cond, ◌&&◌, List, ℕ, zero, suc, ◌+◌, ◌*◌, ◌/◌, ◌≤◌, ◌<◌, leb, eqb, length}
-use Rattle.std.proofs.Math.Option.{Option, none, some}
+use Rattle.std.specs.Prelude.{Result, Ok, Err, Bool, cond, ◌&&◌, List, ℕ, zero, suc, ◌+◌, ◌*◌, ◌/◌, ◌≤◌, ◌<◌, leb, eqb, length}
+use Rattle.std.specs.Prelude.{Option, None, Some}
 use Rattle.limits.specs.declared.Suite.{Suite}
+use Rattle.figures.specs.declared.ByteOffset.{ByteOffset}
+use Rattle.figures.specs.declared.Refusal.{Refusal}
 use Rattle.figures.specs.declared.RowPlace.TheVariants as row_place
 use Rattle.figures.specs.declared.StepPlace.TheVariants as step_place
 use Rattle.figures.specs.declared.Refusal.TheVariants.{Form, Counts, ContentsCut, Entry, FileEnd, UnsoundRow, NotRequirement, StrayBit}
@@ -16,8 +18,6 @@ use Rattle.codec.specs.Codec.{rows_of}
 use Rattle.rows.specs.Checks.{lowest_unsound, lowest_unrequired}
 use Rattle.signals.specs.Truth.{lowest_stray}
 use Rattle.layout.specs.declared.RequirementRange.{RequirementRange}
-use Rattle.layout.specs.declared.Entries.{Entries}
-use Rattle.layout.specs.declared.Entries.TheVariants as entries
 use Rattle.layout.specs.Layout.{Layout, word_size, form_in, conditions_in, requirements_in, runs_in, items_in, contents_end, entry_at, start_in, count_in, must_begin, entry_right, body_in}
 use Rattle.little.specs.Little.{little_at}
 
@@ -54,10 +54,10 @@ abbrev pub entries_checked : Layout → List ℕ → Outcome (Unit {0})
 entries_checked form file =
     refused_at (λ k. Entry (record { 0 = entry_at form k })) (lowest (items_in file) 0 (entry_right form file))
 
--- what going through the entries finds: the first wrong one, or where the file must end
-abbrev pub contents_found : Layout → List ℕ → Option ℕ → Entries
-contents_found form file none = entries.End (record { 0 = must_begin form file (items_in file) })
-contents_found form file (some k) = entries.Wrong (record { 0 = entry_at form k })
+-- what going through the entries finds: 5 at the first wrong one, or where the file must end
+abbrev pub contents_found : Layout → List ℕ → Option ℕ → Result ByteOffset Refusal
+contents_found form file None = Ok (record { 0 = must_begin form file (items_in file) })
+contents_found form file (Some k) = Err (Entry (record { 0 = entry_at form k }))
 
 -- 6, "file does not end with the last body"
 abbrev pub end_checked : Layout → List ℕ → Outcome (Unit {0})

@@ -4,7 +4,7 @@
 ghost use Rattle.std.specs.Prelude.{◌≡◌};
 ghost use Rattle.layout.specs.Checks.{range_of, of_suite};
 
-use figures::{ByteOffset, RequirementCount};
+use figures::RequirementCount;
 use limits::Suite;
 
 // How many requirements a file may have.
@@ -12,13 +12,6 @@ use limits::Suite;
 pub struct RequirementRange {
     pub least: RequirementCount,
     pub most: RequirementCount,
-}
-
-// What going through the entries finds: the first wrong one, or where the file must end.
-#[derive(Clone, Copy)]
-pub enum Entries {
-    Wrong(ByteOffset),
-    End(ByteOffset),
 }
 
 // Form 1: its number, the bytes of the head, of an entry, and of a step.

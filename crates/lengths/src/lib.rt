@@ -3,74 +3,45 @@
 
 ghost use Rattle.std.specs.Prelude.{◌≡◌};
 ghost use Rattle.limits.specs.Limits.{within};
-ghost use Rattle.lengths.specs.Lengths.{rows_within, table_says, requirement_says, run_says, table_of, requirement_of, run_of};
+ghost use Rattle.lengths.specs.Lengths.{rows_within, rows_say, run_says, rows_of, run_of};
 
 use figures::{ByteCount, Refusal, RowCount, StepCount};
+
+// The bytes of a row.
+pub const ROW_BYTES: usize = 3;
 
 fn rows_within(most: usize, bytes: usize) -> bool
     ensures { result ≡ rows_within most bytes }
 {
-    (bytes % Table::ROW_BYTES == 0) & limits::within(1, most, bytes / Table::ROW_BYTES)
+    bytes % ROW_BYTES == 0 && limits::within(1, most, bytes / ROW_BYTES)
 }
 
-// A formula table's number of rows, within its limits.
+// A table's number of rows, which is at most MOST.
 #[derive(Clone, Copy)]
-pub struct Table(pub RowCount);
+pub struct Rows<const MOST: usize>(pub RowCount);
 
-// A requirement's number of rows, within its limits.
-#[derive(Clone, Copy)]
-pub struct Requirement(pub RowCount);
+// A formula table, and a requirement, each by the most rows that it may have.
+pub const TABLE_ROWS: usize = 224;
+
+pub const REQUIREMENT_ROWS: usize = 32;
+
+pub type Table = Rows<TABLE_ROWS>;
+
+pub type Requirement = Rows<REQUIREMENT_ROWS>;
 
 // A run's number of steps, within its limits.
 #[derive(Clone, Copy)]
 pub struct Run(pub StepCount);
 
-#[derive(Clone, Copy)]
-pub enum TableAnswer {
-    Made(Table),
-    Refused(Refusal),
-}
-
-#[derive(Clone, Copy)]
-pub enum RequirementAnswer {
-    Made(Requirement),
-    Refused(Refusal),
-}
-
-#[derive(Clone, Copy)]
-pub enum RunAnswer {
-    Made(Run),
-    Refused(Refusal),
-}
-
-impl Table {
-    // The most rows of a formula table, and the bytes of a row.
-    pub const ROWS: usize = 224;
-
-    pub const ROW_BYTES: usize = 3;
-
-    pub fn new(bytes: ByteCount) -> TableAnswer
-        ensures { table_says result ≡ table_of bytes.0 }
+impl<const MOST: usize> Rows<MOST> {
+    #[tactic(auto, unfolding(crate::specs::Lengths::rows_of))]
+    pub fn new(bytes: ByteCount) -> Result<Self, Refusal>
+        ensures { rows_say result ≡ rows_of MOST bytes.0 }
     {
-        if rows_within(Self::ROWS, bytes.0) {
-            TableAnswer::Made(Table(RowCount(bytes.0 / Self::ROW_BYTES)))
+        if rows_within(MOST, bytes.0) {
+            Ok(Rows(RowCount(bytes.0 / ROW_BYTES)))
         } else {
-            TableAnswer::Refused(Refusal::TableLength)
-        }
-    }
-}
-
-impl Requirement {
-    // The most rows of a requirement.
-    pub const ROWS: usize = 32;
-
-    pub fn new(bytes: ByteCount) -> RequirementAnswer
-        ensures { requirement_says result ≡ requirement_of bytes.0 }
-    {
-        if rows_within(Self::ROWS, bytes.0) {
-            RequirementAnswer::Made(Requirement(RowCount(bytes.0 / Table::ROW_BYTES)))
-        } else {
-            RequirementAnswer::Refused(Refusal::TableLength)
+            Err(Refusal::TableLength)
         }
     }
 }
@@ -79,13 +50,14 @@ impl Run {
     // The most steps of a run.
     pub const STEPS: usize = 4096;
 
-    pub fn new(steps: StepCount) -> RunAnswer
+    #[tactic(auto, unfolding(crate::specs::Lengths::run_of))]
+    pub fn new(steps: StepCount) -> Result<Self, Refusal>
         ensures { run_says result ≡ run_of steps.0 }
     {
         if limits::within(1, Self::STEPS, steps.0) {
-            RunAnswer::Made(Run(steps))
+            Ok(Run(steps))
         } else {
-            RunAnswer::Refused(Refusal::RunLength)
+            Err(Refusal::RunLength)
         }
     }
 }

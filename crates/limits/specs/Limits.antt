@@ -1,11 +1,10 @@
 -- The limits of a suite: document 01, "What is counted", and the refusals that they give.
 -- Assumes nothing.
-use Rattle.std.specs.Prelude.{ℕ, Bool, cond, ◌&&◌, leb}
+use Rattle.std.specs.Prelude.{Result, ℕ, Bool, cond, ◌&&◌, leb}
 use Rattle.limits.specs.declared.Suite.{Suite}
+use Rattle.figures.specs.declared.Refusal.{Refusal}
 use Rattle.figures.specs.declared.Refusal.TheVariants.{FileBytes, Counts}
-use Rattle.limits.specs.declared.SuiteAnswer.{SuiteAnswer}
-use Rattle.limits.specs.declared.SuiteAnswer.TheVariants as suite_answer
-use Rattle.figures.specs.Refusals.{Outcome, refusal}
+use Rattle.figures.specs.Refusals.{Outcome, refusal, result_says}
 use Rattle.figures.specs.Refusals.Outcome.{gives}
 
 -- "Thing, Least, Most"
@@ -43,6 +42,5 @@ unfoldable pub file_of : ℕ → Outcome (Unit {0})
 file_of bytes = cond (within least_bytes most_bytes bytes) (gives tt) (refusal FileBytes)
 
 -- what each constructor's answer says, in document 01's numbers
-abbrev pub suite_says : SuiteAnswer → Outcome Suite
-suite_says (suite_answer.Made s) = gives s
-suite_says (suite_answer.Refused r) = refusal r
+abbrev pub suite_says : Result Suite Refusal → Outcome Suite
+suite_says = result_says (λ s. s)

@@ -5,20 +5,21 @@ ghost use Rattle.std.specs.Prelude.{◌≡◌};
 ghost use Rattle.figures.specs.Refusals.{check_says};
 ghost use Rattle.limits.specs.Limits.{within, counts_within, suite_says, suite_of, file_of};
 
-use figures::{ByteCount, Check, ConditionCount, Refusal, RequirementCount, RunCount};
+use figures::{ByteCount, ConditionCount, Refusal, RequirementCount, RunCount};
 
 // The one test of a limit.
 pub fn within(least: usize, most: usize, n: usize) -> bool
     ensures { result ≡ within least most n }
 {
-    (least <= n) & (n <= most)
+    (least..=most).contains(&n)
 }
 
 fn counts_within(conditions: usize, requirements: usize, runs: usize) -> bool
     ensures { result ≡ counts_within conditions requirements runs }
 {
     within(1, Suite::CONDITIONS, conditions)
-        & (within(1, Suite::REQUIREMENTS, requirements) & within(1, Suite::RUNS, runs))
+        && within(1, Suite::REQUIREMENTS, requirements)
+        && within(1, Suite::RUNS, runs)
 }
 
 // A suite's counts, within their limits.
@@ -27,12 +28,6 @@ pub struct Suite {
     pub conditions: ConditionCount,
     pub requirements: RequirementCount,
     pub runs: RunCount,
-}
-
-#[derive(Clone, Copy)]
-pub enum SuiteAnswer {
-    Made(Suite),
-    Refused(Refusal),
 }
 
 impl Suite {
@@ -47,39 +42,41 @@ impl Suite {
 
     pub const BYTES: usize = 65535;
 
+    #[tactic(auto, unfolding(crate::specs::Limits::suite_of))]
     pub fn new(
         conditions: ConditionCount,
         requirements: RequirementCount,
         runs: RunCount,
-    ) -> SuiteAnswer
+    ) -> Result<Suite, Refusal>
         ensures { suite_says result ≡ suite_of conditions.0 requirements.0 runs.0 }
     {
         if counts_within(conditions.0, requirements.0, runs.0) {
-            SuiteAnswer::Made(Suite {
+            Ok(Suite {
                 conditions,
                 requirements,
                 runs,
             })
         } else {
-            SuiteAnswer::Refused(Refusal::Counts)
+            Err(Refusal::Counts)
         }
     }
 
     // A lone table or run is read as of a suite with one requirement and one run, so that only the conditions can be refused.
-    pub fn lone(conditions: ConditionCount) -> SuiteAnswer
+    pub fn lone(conditions: ConditionCount) -> Result<Suite, Refusal>
         ensures { suite_says result ≡ suite_of conditions.0 1 1 }
     {
         Suite::new(conditions, RequirementCount(1), RunCount(1))
     }
 
     // Refusal 1 of a file of so many bytes.
-    pub fn file(bytes: ByteCount) -> Check
+    #[tactic(auto, unfolding(crate::specs::Limits::file_of))]
+    pub fn file(bytes: ByteCount) -> Result<(), Refusal>
         ensures { check_says result ≡ file_of bytes.0 }
     {
         if within(Self::LEAST_BYTES, Self::BYTES, bytes.0) {
-            Check::Passed
+            Ok(())
         } else {
-            Check::Refused(Refusal::FileBytes)
+            Err(Refusal::FileBytes)
         }
     }
 }

@@ -1,18 +1,14 @@
--- A line put field by field: a field with a space after it, and then the rest of the line; and how long a line is.
+-- How long a line is, field by field, and a text with one field more.
 -- Assumes nothing.
-use mathlib.Core.Path.{◌≡◌, sym}
-use mathlib.Core.List.{List, [], ◌∷◌, ◌++◌, append_assoc}
+use mathlib.Core.Path.{◌≡◌}
+use mathlib.Core.List.{List, [], ◌∷◌, ◌++◌}
 use Prim.Native.Nat.{ℕ, ◌+◌}
 use native.Mathlib.Omega.{arith}
 use lib.ListN.{length, length-append}
-use Rattle.lines.specs.Lines.{space, line_feed, line, Put}
-use Rattle.lines.proofs.Joined.{put_after}
+use Rattle.lines.specs.Lines.{space, line_feed, line}
 
 -- a field that others follow
 module _ (f g : List ℕ) (fs : List (List ℕ)) where
-  pub line_more : line (f ∷ g ∷ fs) ≡ (f ++ (space ∷ [])) ++ line (g ∷ fs)
-  line_more = sym (append_assoc f (space ∷ []) (line (g ∷ fs)))
-
   pub length_more : length (line (f ∷ g ∷ fs)) ≡ length f + 1 + length (line (g ∷ fs))
   length_more = omega (arith, length-append f (space ∷ line (g ∷ fs)))
 
@@ -20,8 +16,6 @@ module _ (f g : List ℕ) (fs : List (List ℕ)) where
 pub length_last : (f : List ℕ) → length (line (f ∷ [])) ≡ length f + 1
 length_last f = length-append f (line_feed ∷ [])
 
--- f with a space after it, and from there the line of the fields that follow it
-pub put_field :
-    {before mid after : List ℕ} {at next : ℕ} (f g : List ℕ) (fs : List (List ℕ)) → Put before at (f ++ (space ∷ [])) mid →
-    next ≡ at + (length f + 1) → Put mid next (line (g ∷ fs)) after → Put before at (line (f ∷ g ∷ fs)) after
-put_field f g fs p e q = rw (line_more f g fs) (put_after p (omega (arith, length-append f (space ∷ []))) q)
+-- the length of a text with one field and one byte more
+pub length_put : (t f : List ℕ) (byte : ℕ) → length (t ++ (f ++ (byte ∷ []))) ≡ length t + (length f + 1)
+length_put t f byte = omega (arith, length-append t (f ++ (byte ∷ [])), length-append f (byte ∷ []))

@@ -1,9 +1,6 @@
 pub mod Decimal
 pub mod Width
-pub mod Joined
 pub mod Fields
-pub mod Refused
 pub mod Digits
-pub mod Written
 pub mod InOrder
 pub mod Filled

@@ -1,6 +1,6 @@
 -- Lines as the programs print them: document 01, "The bench sheet, whole".
 -- Assumes nothing.
-use Rattle.std.specs.Prelude.{◌≡◌, cond, List, [], ◌∷◌, ◌++◌, ℕ, zero, suc, ◌+◌, ◌/◌, ◌%◌, ltb, length, take}
+use Rattle.std.specs.Prelude.{cond, List, [], ◌∷◌, ◌++◌, ℕ, zero, suc, ◌+◌, ◌/◌, ◌%◌, ltb}
 use Rattle.figures.specs.declared.Place.{Place}
 use Rattle.figures.specs.Refusals.{printed_place}
 
@@ -35,8 +35,3 @@ refused_word = 114 ∷ 101 ∷ 102 ∷ 117 ∷ 115 ∷ 101 ∷ 100 ∷ []
 -- "A refusal, here and in every later program, prints only `refused`, number, place"
 unfoldable pub refused_line : ℕ → Place → List ℕ
 refused_line n p = line (refused_word ∷ decimal n ∷ decimal (printed_place p) ∷ [])
-
--- text stands in lent bytes from a place on, after what stood before it; what comes after it is left open
-pub record Put (before : List ℕ) (at : ℕ) (text after : List ℕ) : Type 0 where
-  pub same_length : length after ≡ length before
-  pub front : take (at + length text) after ≡ take at before ++ text

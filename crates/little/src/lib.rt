@@ -1,20 +1,14 @@
 // Little-endian numbers, read from lent bytes.
 #![tactic(auto)]
 
-ghost use Rattle.std.specs.Prelude.{◌≡◌, ◌+◌, ◌*◌, ◌≤◌, ◌<◌, length, get_or};
+ghost use Rattle.std.specs.Prelude.{◌≡◌, ◌≤◌, ◌<◌, length, get_or};
 ghost use Rattle.little.specs.Little.{little_at};
 
 // The byte at a place as a number, and 0 past the end.
 pub fn byte_at(bytes: &[u8], at: usize) -> usize
     ensures { (result ≡ get_or bytes.now at 0) × (result < 256) }
 {
-    if at < bytes.len() { wide(bytes[at]) } else { 0 }
-}
-
-fn wide(byte: u8) -> usize
-    ensures { (result ≡ byte) × (result < 256) }
-{
-    byte as usize
+    bytes.get(at).map_or(0, |byte| usize::from(*byte))
 }
 
 // The two-byte number at a place.
@@ -25,16 +19,10 @@ pub fn two_at(bytes: &[u8], at: usize) -> usize
     byte_at(bytes, at) + 256 * byte_at(bytes, at + 1)
 }
 
-fn wide32(byte: u8) -> u32
-    ensures { (result ≡ byte) × (result < 256) }
-{
-    byte as u32
-}
-
 // The four-byte number that starts at the first byte lent.
 pub fn word_of(bytes: &[u8]) -> u32
     requires { 4 ≤ length bytes.now }
     ensures { result ≡ little_at 4 bytes.now 0 }
 {
-    wide32(bytes[0]) + 256 * (wide32(bytes[1]) + 256 * (wide32(bytes[2]) + 256 * wide32(bytes[3])))
+    u32::from_le_bytes([bytes[0], bytes[1], bytes[2], bytes[3]])
 }

@@ -1,6 +1,6 @@
 -- A step's word by its limits: one limit more, and that it fits so many bits as there are limits.
 -- Assumes nothing.
-use mathlib.Core.Path.{◌≡◌, ◌∙◌, ap, ap₂}
+use mathlib.Core.Path.{◌≡◌, refl, ◌∙◌, ap, ap₂}
 use mathlib.Core.Bool.{Bool, true, false, cond}
 use mathlib.Core.List.{List, [], ◌∷◌}
 use Prim.Native.Nat.{ℕ, suc, ◌+◌, ◌-◌, ◌*◌, ◌^◌, ◌≤◌, ◌<◌}
@@ -10,11 +10,16 @@ use lib.IntN.{ℤ, pos}
 use lib.ListN.{length, get_or, drop, drop_of_length-le, length-drop}
 use lib.Pow.{pow_mono}
 use lib.Seq.{drop-cons}
+use mir.Val.{bool_byte}
 use Rattle.log_words.specs.StepWord.{holds_at, word_by}
 
 pub bit_less : (b : Bool) → cond b 1 0 < 2
 bit_less true = omega arith
 bit_less false = omega arith
+
+pub bit_made : (b : Bool) → bool_byte b ≡ cond b 1 0
+bit_made true = refl
+bit_made false = refl
 
 module _ (travel : ℤ) where
   pub word_none : (limits : List ℤ) → 0 ≡ word_by (drop (length limits) limits) travel

@@ -1,7 +1,7 @@
 // One step's word of a recorded run: which conditions hold, by their limits and the travel at the step, all in encoder counts.
 #![tactic(auto)]
 
-ghost use Rattle.std.specs.Prelude.{◌≡◌, cond, ◌≤◌, length};
+ghost use Rattle.std.specs.Prelude.{◌≡◌, ◌≤◌, length};
 ghost use Rattle.limits.specs.Limits.{most_conditions};
 ghost use Rattle.log_words.specs.StepWord.{holds_at, word_by};
 
@@ -18,24 +18,14 @@ pub fn holds(limit: Limit, travel: Travel) -> bool
     limit.0 <= travel.0
 }
 
-// The lowest bit of a word, for a condition that holds or not.
-fn low_bit(holds: bool) -> u32
-    ensures { result ≡ cond holds 1 0 }
-{
-    if holds { 1 } else { 0 }
-}
-
 // The word of a step: bit c is condition c, so the last limit comes first.
 pub fn word_of(limits: &[i32], travel: Travel) -> u32
     requires { length limits.now ≤ most_conditions }
     ensures { result ≡ word_by limits.now travel.0 }
 {
     let mut word = 0;
-    let mut c = limits.len();
-    while 0 < c {
-        c -= 1;
-        let holds = holds(Limit(limits[c]), travel);
-        word = low_bit(holds) + 2 * word;
+    for c in (0..limits.len()).rev() {
+        word = u32::from(holds(Limit(limits[c]), travel)) + 2 * word;
     }
     word
 }

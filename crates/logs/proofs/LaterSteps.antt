@@ -4,7 +4,7 @@ use mathlib.Core.Path.{◌≡◌, refl, sym, ap, subst}
 use mathlib.Core.Logic.{◌↔◌}
 use mathlib.Core.Bool.{Bool, true, not}
 use mathlib.Core.List.{List}
-use mathlib.Core.Option.{Option, none, some}
+use Rattle.std.specs.Prelude.{Option, None, Some}
 use Prim.Native.Nat.{ℕ, zero, suc, ◌-◌}
 use native.Mathlib.Omega.{arith}
 use lib.Dec.{eqb}
@@ -31,8 +31,8 @@ module _ (log : List ℕ) where
   turns_numbered m p = go (lowest_half_turn log)
     where
       go : (l : Option ℕ) → turns_of l ≡ refused m p → m ≡ 17
-      go none e = not_both e refl
-      go (some k) e = sym (same_number e)
+      go None e = not_both e refl
+      go (Some k) e = sym (same_number e)
 
   -- the lowest step after step 0 whose difference is half a turn
   abbrev pub HalfTurnAt : ℕ → Type 0
@@ -48,11 +48,11 @@ module _ (log : List ℕ) where
     λ h. ap turns_of (lowest_none (steps_in log - 1) 0 early (λ k l g. h (suc k) (omega arith) (omega arith))),
   )
     where
-      go : (l : Option ℕ) → lowest_half_turn log ≡ l → turns_of l ≡ gives tt → lowest_half_turn log ≡ none
-      go none q e = q
-      go (some k) q e = not_both refl e
+      go : (l : Option ℕ) → lowest_half_turn log ≡ l → turns_of l ≡ gives tt → lowest_half_turn log ≡ None
+      go None q e = q
+      go (Some k) q e = not_both refl e
 
-      there : lowest_half_turn log ≡ none → Holds (reads log) 1 (steps_in log)
+      there : lowest_half_turn log ≡ None → Holds (reads log) 1 (steps_in log)
       there e zero l g = refl
       there e (suc k) l g = lowest_holds (steps_in log - 1) 0 early e k (omega arith) (omega arith)
 
@@ -73,8 +73,8 @@ module _ (log : List ℕ) where
       same_place e = cc
 
       go : (l : Option ℕ) → lowest_half_turn log ≡ l → turns_of l ≡ refused 17 (place.Step (record { 0 = i })) → HalfTurnAt i
-      go none q e = not_both e refl
-      go (some k) q e = subst HalfTurnAt (ap printed_place (same_place e)) (later k (lowest_is (steps_in log - 1) 0 early k q))
+      go None q e = not_both e refl
+      go (Some k) q e = subst HalfTurnAt (ap printed_place (same_place e)) (later k (lowest_is (steps_in log - 1) 0 early k q))
 
       back : (j : ℕ) → HalfTurnAt j → turns ≡ refused 17 (place.Step (record { 0 = j }))
       back zero h = absurd (let a = h.from in omega arith)

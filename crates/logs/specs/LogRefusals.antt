@@ -1,7 +1,8 @@
 -- What refuses a log: document 02, wish 5.
 -- Assumes nothing.
-use Rattle.std.specs.Prelude.{cond, List, ℕ, suc, ◌%◌, eqb, length}
-use Rattle.std.proofs.Math.Option.{Option, none, some}
+use Rattle.std.specs.Prelude.{Option, None, Some, Result, Ok, Err, cond, List, ℕ, suc, ◌%◌, eqb, length}
+use Rattle.figures.specs.declared.StepNumber.{StepNumber}
+use Rattle.figures.specs.declared.StepCount.{StepCount}
 use Rattle.figures.specs.declared.Place.{Place}
 use Rattle.figures.specs.declared.Place.TheVariants as place
 use Rattle.figures.specs.declared.Refusal.TheVariants.{RunLength}
@@ -10,10 +11,6 @@ use Rattle.figures.specs.Refusals.Outcome.{refused, gives}
 use Rattle.lengths.specs.Lengths.{run_of}
 use Rattle.logs.specs.declared.LogRefusal.{LogRefusal}
 use Rattle.logs.specs.declared.LogRefusal.TheVariants as log_refusals
-use Rattle.logs.specs.declared.LogAnswer.{LogAnswer}
-use Rattle.logs.specs.declared.LogAnswer.TheVariants as log_answer
-use Rattle.logs.specs.declared.StepAnswer.{StepAnswer}
-use Rattle.logs.specs.declared.StepAnswer.TheVariants as step_answer
 use Rattle.encoder.specs.Log.{count_bytes, steps_in, lowest_half_turn}
 
 -- one of document 01's refusals, or 17 at the later step
@@ -29,14 +26,14 @@ abbrev pub log_refusal {ℓ} : {A : Type ℓ} → LogRefusal → Outcome A
 log_refusal r = refused (log_number r) (log_place r)
 
 -- what a search for a step found
-abbrev pub step_says : StepAnswer → Option ℕ
-step_says (step_answer.At i) = some i.0
-step_says step_answer.Nowhere = none
+abbrev pub step_says : Option StepNumber → Option ℕ
+step_says (Some i) = Some i.0
+step_says None = None
 
 -- what a check of a log answers: its number of steps, or the refusal's number and place
-abbrev pub log_says : LogAnswer → Outcome ℕ
-log_says (log_answer.Steps n) = gives n.0
-log_says (log_answer.Refused r) = log_refusal r
+abbrev pub log_says : Result StepCount LogRefusal → Outcome ℕ
+log_says (Ok n) = gives n.0
+log_says (Err r) = log_refusal r
 
 -- 10, "for the steps or an odd number of bytes", else the number of steps
 abbrev pub steps_of : List ℕ → Outcome ℕ
@@ -44,8 +41,8 @@ steps_of log = cond (eqb (length log % count_bytes) 0) (run_of (steps_in log)) (
 
 -- 17, "at the later step"
 abbrev pub turns_of : Option ℕ → Outcome (Unit {0})
-turns_of none = gives tt
-turns_of (some k) = log_refusal (log_refusals.HalfTurn (record { 0 = suc k }))
+turns_of None = gives tt
+turns_of (Some k) = log_refusal (log_refusals.HalfTurn (record { 0 = suc k }))
 
 -- 10 and then 17, else the number of steps
 unfoldable pub log_of : List ℕ → Outcome ℕ

@@ -6,11 +6,12 @@ ghost use Rattle.lengths.specs.Lengths.{most_steps};
 ghost use Rattle.encoder.specs.Log.{lowest_half_turn, steps_in};
 ghost use Rattle.figures.specs.Refusals.{◌then◌};
 ghost use Rattle.figures.specs.Refusals.Outcome.{gives};
+ghost use Rattle.logs.specs.declared.LogRefusal.TheVariants.{Listed};
 ghost use Rattle.logs.specs.LogRefusals.{log_number, log_of, log_place, log_says, step_says, turns_of};
 
 use encoder::{Difference, EncoderCount};
 use figures::{Place, Refusal, RefusalNumber, StepCount, StepNumber};
-use lengths::{Run, RunAnswer};
+use lengths::Run;
 
 // Why a log is refused: one of document 01's refusals, or 17 at the later step.
 #[derive(Clone, Copy)]
@@ -19,18 +20,12 @@ pub enum LogRefusal {
     HalfTurn(StepNumber),
 }
 
-// What a check of a log answers.
-#[derive(Clone, Copy)]
-pub enum LogAnswer {
-    Steps(StepCount),
-    Refused(LogRefusal),
-}
+impl From<Refusal> for LogRefusal {
+    ghost from_gives = { λ refusal log_refusal. log_refusal ≡ Listed refusal };
 
-// The lowest step that a search found.
-#[derive(Clone, Copy)]
-pub enum StepAnswer {
-    At(StepNumber),
-    Nowhere,
+    fn from(refusal: Refusal) -> LogRefusal {
+        LogRefusal::Listed(refusal)
+    }
 }
 
 impl LogRefusal {
@@ -54,42 +49,38 @@ impl LogRefusal {
 }
 
 // The lowest step from which the encoder went on by exactly half a turn, so that nobody can tell which way.
-pub fn lowest_half_turn(log: &[u8]) -> StepAnswer
+pub fn lowest_half_turn(log: &[u8]) -> Option<StepNumber>
     requires { steps_in log.now ≤ most_steps }
     ensures { step_says result ≡ lowest_half_turn log.now }
 {
     let steps = log.len() / EncoderCount::BYTES;
-    let mut k = 0;
-    while k + 1 < steps {
+    for k in 0..steps.saturating_sub(1) {
         let difference = encoder::difference_at(log, StepNumber(k));
         if difference.0 == Difference::HALF_TURN {
-            return StepAnswer::At(StepNumber(k));
+            return Some(StepNumber(k));
         }
-        k += 1;
     }
-    StepAnswer::Nowhere
+    None
 }
 
 // Refusal 17 at the later step, or the number of steps.
-fn check_turns(log: &[u8], steps: StepCount) -> LogAnswer
+fn check_turns(log: &[u8], steps: StepCount) -> Result<StepCount, LogRefusal>
     requires { steps_in log.now ≤ most_steps }
     ensures { log_says result ≡ (turns_of (lowest_half_turn log.now) then λ _. gives steps.0) }
 {
     match lowest_half_turn(log) {
-        StepAnswer::At(k) => { LogAnswer::Refused(LogRefusal::HalfTurn(StepNumber(k.0 + 1))) }
-        StepAnswer::Nowhere => LogAnswer::Steps(steps),
+        Some(k) => Err(LogRefusal::HalfTurn(StepNumber(k.0 + 1))),
+        None => Ok(steps),
     }
 }
 
 // Refusals 10 and 17 of a log, or its number of steps.
-pub fn check_log(log: &[u8]) -> LogAnswer
+pub fn check_log(log: &[u8]) -> Result<StepCount, LogRefusal>
     ensures { log_says result ≡ log_of log.now }
 {
     if log.len() % EncoderCount::BYTES != 0 {
-        return LogAnswer::Refused(LogRefusal::Listed(Refusal::RunLength));
+        return Err(LogRefusal::Listed(Refusal::RunLength));
     }
-    match Run::new(StepCount(log.len() / EncoderCount::BYTES)) {
-        RunAnswer::Refused(r) => LogAnswer::Refused(LogRefusal::Listed(r)),
-        RunAnswer::Made(run) => check_turns(log, run.0),
-    }
+    let run = Run::new(StepCount(log.len() / EncoderCount::BYTES))?;
+    check_turns(log, run.0)
 }

@@ -1,59 +1,56 @@
 // The `suite`, `req` and `total` lines of the sheet.
 #![tactic(auto)]
 
-ghost use Rattle.std.specs.Prelude.{◌≡◌, ◌+◌, ◌≤◌, ◌<◌, length};
+ghost use Rattle.std.specs.Prelude.{◌≡◌, ◌++◌, ◌+◌, ◌≤◌, ◌<◌};
+ghost use Rattle.arrayvec.specs.ArrayVec.{array_vec_len};
 ghost use Rattle.bench.specs.Longest.{suite_line_most, req_line_most, total_line_most};
-ghost use Rattle.lines.specs.Lines.{Put};
 ghost use Rattle.bench.specs.Sheet.{suite_line, req_line, total_line};
 
-use figures::{ByteCount, OccurrenceCount, RequirementCount, RequirementNumber, RunCount};
-use lines::Field;
+use figures::{OccurrenceCount, RequirementCount, RequirementNumber, RunCount};
+use lines::{Field, Page};
 
-pub fn put_suite_line(
+pub fn put_suite_line<const MOST: usize>(
     requirements: RequirementCount,
     runs: RunCount,
-    out: &mut [u8],
-    at: ByteCount,
-) -> ByteCount
-    requires { (requirements.0 < 100) × (runs.0 < 100) × (at.0 + suite_line_most ≤ length out.old) }
-    ensures result_value { (result.0 ≡ at.0 + length (suite_line requirements.0 runs.0)) × (result.0 ≤ at.0 + suite_line_most) }
-    ensures put { Put out.old at.0 (suite_line requirements.0 runs.0) out.new }
+    page: &mut Page<MOST>,
+)
+    requires { (requirements.0 < 100) × (runs.0 < 100) × (array_vec_len page.old.text + suite_line_most ≤ MOST) }
+    ensures puts { page.new.text.items ≡ page.old.text.items ++ suite_line requirements.0 runs.0 }
+    ensures ends { array_vec_len page.new.text ≤ array_vec_len page.old.text + suite_line_most }
 {
-    let word = lines::put_word(b"suite", b' ', out, at);
-    let first = lines::put_number(Field(requirements.0), b' ', out, word);
-    lines::put_number(Field(runs.0), b'\n', out, first)
+    page.put_word(b"suite", b' ');
+    page.put_number(Field(requirements.0), b' ');
+    page.put_number(Field(runs.0), b'\n')
 }
 
-pub fn put_req_line(
+pub fn put_req_line<const MOST: usize>(
     q: RequirementNumber,
     many: OccurrenceCount,
     held: RunCount,
-    out: &mut [u8],
-    at: ByteCount,
-) -> ByteCount
-    requires { (q.0 < 100) × (many.0 < 100) × (held.0 < 100) × (at.0 + req_line_most ≤ length out.old) }
-    ensures result_value { (result.0 ≡ at.0 + length (req_line q.0 many.0 held.0)) × (result.0 ≤ at.0 + req_line_most) }
-    ensures put { Put out.old at.0 (req_line q.0 many.0 held.0) out.new }
+    page: &mut Page<MOST>,
+)
+    requires { (q.0 < 100) × (many.0 < 100) × (held.0 < 100) × (array_vec_len page.old.text + req_line_most ≤ MOST) }
+    ensures puts { page.new.text.items ≡ page.old.text.items ++ req_line q.0 many.0 held.0 }
+    ensures ends { array_vec_len page.new.text ≤ array_vec_len page.old.text + req_line_most }
 {
-    let req = lines::put_word(b"req", b' ', out, at);
-    let number = lines::put_number(Field(q.0), b' ', out, req);
-    let occ = lines::put_word(b"occ", b' ', out, number);
-    let count = lines::put_number(Field(many.0), b' ', out, occ);
-    let word = lines::put_word(b"held", b' ', out, count);
-    lines::put_number(Field(held.0), b'\n', out, word)
+    page.put_word(b"req", b' ');
+    page.put_number(Field(q.0), b' ');
+    page.put_word(b"occ", b' ');
+    page.put_number(Field(many.0), b' ');
+    page.put_word(b"held", b' ');
+    page.put_number(Field(held.0), b'\n')
 }
 
-pub fn put_total_line(
+pub fn put_total_line<const MOST: usize>(
     some: OccurrenceCount,
     all: OccurrenceCount,
-    out: &mut [u8],
-    at: ByteCount,
-) -> ByteCount
-    requires { (some.0 < 1000) × (all.0 < 1000) × (at.0 + total_line_most ≤ length out.old) }
-    ensures result_value { (result.0 ≡ at.0 + length (total_line some.0 all.0)) × (result.0 ≤ at.0 + total_line_most) }
-    ensures put { Put out.old at.0 (total_line some.0 all.0) out.new }
+    page: &mut Page<MOST>,
+)
+    requires { (some.0 < 1000) × (all.0 < 1000) × (array_vec_len page.old.text + total_line_most ≤ MOST) }
+    ensures puts { page.new.text.items ≡ page.old.text.items ++ total_line some.0 all.0 }
+    ensures ends { array_vec_len page.new.text ≤ array_vec_len page.old.text + total_line_most }
 {
-    let total = lines::put_word(b"total", b' ', out, at);
-    let first = lines::put_number(Field(some.0), b' ', out, total);
-    lines::put_number(Field(all.0), b'\n', out, first)
+    page.put_word(b"total", b' ');
+    page.put_number(Field(some.0), b' ');
+    page.put_number(Field(all.0), b'\n')
 }

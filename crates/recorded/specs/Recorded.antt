@@ -1,16 +1,16 @@
 -- Taking in a recorded run: document 02, wish 5. Limits and travel are encoder counts; nothing here is in millimetres or inches.
 -- Assumes nothing.
-use Rattle.std.specs.Prelude.{cond, List, ℕ, leb, ℤ, length}
+use Rattle.std.specs.Prelude.{Result, cond, List, ℕ, leb, ℤ, length}
+use Rattle.figures.specs.declared.StepCount.{StepCount}
+use Rattle.logs.specs.declared.LogRefusal.{LogRefusal}
 use Rattle.figures.specs.declared.Refusal.TheVariants.{ShortOutput}
 use Rattle.figures.specs.Refusals.{Outcome, refusal, ◌then◌}
 use Rattle.figures.specs.Refusals.Outcome.{gives}
 use Rattle.limits.specs.Limits.{suite_of}
 use Rattle.figures.specs.Numbers.{tabulate}
 use Rattle.encoder.specs.Log.{steps_in, travel}
-use Rattle.logs.specs.LogRefusals.{log_of, log_refusal}
+use Rattle.logs.specs.LogRefusals.{log_of, log_says}
 use Rattle.log_words.specs.StepWord.{word_by}
-use Rattle.recorded.specs.declared.Taken.{Taken}
-use Rattle.recorded.specs.declared.Taken.TheVariants as taken
 
 -- "The result is a lone run": a word a step of the log
 abbrev pub run_made : List ℤ → List ℕ → List ℕ
@@ -25,6 +25,5 @@ unfoldable pub taken_of : List ℕ → List ℤ → ℕ → Outcome ℕ
 taken_of log limits room = suite_of (length limits) 1 1 then λ _. log_of log then λ steps. room_for steps room
 
 -- what an answer says
-abbrev pub taken_says : Taken → Outcome ℕ
-taken_says (taken.Steps n) = gives n.0
-taken_says (taken.Refused r) = log_refusal r
+abbrev pub taken_says : Result StepCount LogRefusal → Outcome ℕ
+taken_says = log_says

@@ -6,41 +6,31 @@ ghost use Rattle.rows.specs.Rows.{named};
 ghost use Rattle.rows.specs.Checks.{found_row, times, namings, named_once, not_over_condition, lowest_unrequired};
 
 use figures::RowNumber;
-use rows::{Fields, RowFound};
+use rows::{Fields, Kind};
 
 // How often a row names row k.
 fn times_named(row: [u16; 3], k: RowNumber) -> usize
     ensures { result ≡ times k.0 (named row) }
 {
-    let wanted = k.0;
-    let first = rows::one_if(wanted == row[1] as usize);
-    let second = rows::one_if(wanted == row[2] as usize);
-    match rows::fields_of(row[0]) {
-        Fields::Neither => 0,
-        Fields::Condition => 0,
+    let first = usize::from(k.0 == usize::from(row[1]));
+    let second = usize::from(k.0 == usize::from(row[2]));
+    match Kind::from(row[0]).fields() {
         Fields::OneRow => first,
         Fields::TwoRows => first + second,
-        Fields::Unknown => 0,
+        Fields::Neither | Fields::Condition | Fields::Unknown => 0,
     }
 }
 
 // How often the rows of a table name row k.
+#[tactic(auto, using(rows::proofs::Named::at_most_two), unfolding(rows::specs::Checks::namings))]
 fn namings(rows: &[[u16; 3]], k: RowNumber) -> usize
     ensures { result ≡ namings rows.now k.0 (length rows.now) }
 {
     let mut count = 0;
-    let mut r = 0;
-    while r < rows.len() {
-        count += times_named(rows[r], k);
-        r += 1;
+    for row in rows {
+        count += times_named(*row, k);
     }
     count
-}
-
-fn row_number(field: u16) -> RowNumber
-    ensures { result.0 ≡ field }
-{
-    RowNumber(field as usize)
 }
 
 // Whether a row is as a requirement has it: 9 is given where it is not.
@@ -48,24 +38,21 @@ fn row_required(rows: &[[u16; 3]], r: RowNumber) -> bool
     requires { r.0 < length rows.now }
     ensures { result ≡ (named_once rows.now r.0 && not_over_condition rows.now r.0) }
 {
-    let at = r.0;
-    let row = rows[at];
-    let below_last = at + 1 < rows.len();
+    let row = rows[r.0];
+    let below_last = r.0 + 1 < rows.len();
     let once = namings(rows, r) == 1;
-    let over_condition = rows::is_condition(rows, row_number(row[1]));
-    let is_not = row[0] == 3;
-    (!below_last | once) & (!is_not | over_condition)
+    let over_condition = rows::is_condition(rows, RowNumber(usize::from(row[1])));
+    (!below_last | once) & (!rows::is_not_row(row) | over_condition)
 }
 
-pub fn lowest_unrequired(rows: &[[u16; 3]]) -> RowFound
+#[tactic(auto, using(laws::proofs::Lowest::passed_all))]
+pub fn lowest_unrequired(rows: &[[u16; 3]]) -> Option<RowNumber>
     ensures { found_row result ≡ lowest_unrequired rows.now }
 {
-    let mut r = 0;
-    while r < rows.len() {
+    for r in 0..rows.len() {
         if !row_required(rows, RowNumber(r)) {
-            return RowFound::At(RowNumber(r));
+            return Some(RowNumber(r));
         }
-        r += 1;
     }
-    RowFound::Nowhere
+    None
 }

@@ -5,13 +5,16 @@ use mathlib.Core.Logic.Iff
 use mathlib.Core.Logic.{◌↔◌}
 use mathlib.Core.Bool.{◌&&◌}
 use mathlib.Core.List.{List}
-use mathlib.Core.Option.{Option, none, some}
+use Rattle.std.specs.Prelude.{Option, None, Some, Result}
 use Prim.Native.Nat.{ℕ, ◌*◌, ◌/◌, ◌≤◌, ◌<◌}
 use native.Mathlib.Omega.{arith}
 use borrow.Author.Tests.{leb-true, le-leb}
 use lib.ListN.{length}
 use Rattle.figures.specs.declared.Place.{Place}
 use Rattle.figures.specs.declared.Place.TheVariants as place
+use Rattle.figures.specs.declared.ByteCount.{ByteCount}
+use Rattle.figures.specs.declared.RowNumber.{RowNumber}
+use Rattle.figures.specs.declared.Refusal.{Refusal}
 use Rattle.figures.specs.declared.Refusal.TheVariants.{UnsoundRow, NotRequirement, ShortOutput}
 use Rattle.figures.specs.Refusals.{Outcome, printed_place}
 use Rattle.figures.specs.Refusals.Outcome.{refused, gives}
@@ -19,11 +22,7 @@ use Rattle.lengths.specs.Lengths.{row_bytes}
 use Rattle.laws.proofs.Given.{refused_when, over_means}
 use Rattle.laws.proofs.Lowest.{Lowest}
 use Rattle.laws.proofs.Order.{Numbered, test_numbered, test_gives, lowest_refused}
-use Rattle.laws.proofs.Unique.{one_answer, unique, read_back, read_refusal}
-use Rattle.rows.specs.declared.RowFound.{RowFound}
-use Rattle.rows.specs.declared.RowFound.TheVariants as row_found
-use Rattle.codec.specs.declared.Encoded.{Encoded}
-use Rattle.codec.specs.declared.Encoded.TheVariants as answer
+use Rattle.laws.proofs.Unique.{one_answer, result_unique}
 use Rattle.rows.specs.Rows.{Row, row_at}
 use Rattle.codec.specs.Codec.{encoded_says, encode_of, fits}
 use Rattle.rows.specs.Checks.{lone_row, row_sound, named_once, not_over_condition, rows_checked, requirement_checked, found_row}
@@ -63,24 +62,17 @@ module _ (rows : List Row) (room : ℕ) where
   encode_numbered = test_numbered _ ShortOutput (fits rows room)
 
 -- a search's answer, and a write's, are determined by what they say
-found_row_lem : Option ℕ → RowFound
-found_row_lem none = row_found.Nowhere
-found_row_lem (some r) = row_found.At (record { 0 = r })
+found_row_lem : Option ℕ → Option RowNumber
+found_row_lem None = None
+found_row_lem (Some r) = Some (record { 0 = r })
 
-pub found_unique : {a b : RowFound} {o : Option ℕ} → found_row a ≡ o → found_row b ≡ o → a ≡ b
+pub found_unique : {a b : Option RowNumber} {o : Option ℕ} → found_row a ≡ o → found_row b ≡ o → a ≡ b
 unfolding found_row_lem
 found_unique = one_answer found_row found_row_lem read
   where
-    read : (a : RowFound) → found_row_lem (found_row a) ≡ a
-    read (row_found.At r) = refl
-    read row_found.Nowhere = refl
+    read : (a : Option RowNumber) → found_row_lem (found_row a) ≡ a
+    read (Some r) = refl
+    read None = refl
 
-abbrev written : ℕ → Encoded
-written n = answer.Written (record { 0 = n })
-
-pub encoded_unique : {a b : Encoded} {o : Outcome ℕ} → encoded_says a ≡ o → encoded_says b ≡ o → a ≡ b
-encoded_unique = unique written answer.Refused encoded_says read
-  where
-    read : (a : Encoded) → read_back written answer.Refused (encoded_says a) ≡ a
-    read (answer.Written b) = refl
-    read (answer.Refused r) = read_refusal written answer.Refused r
+pub encoded_unique : {a b : Result ByteCount Refusal} {o : Outcome ℕ} → encoded_says a ≡ o → encoded_says b ≡ o → a ≡ b
+encoded_unique = result_unique (λ b. b.0) (λ n. record { 0 = n }) (λ b. refl)

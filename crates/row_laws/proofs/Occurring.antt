@@ -4,11 +4,11 @@ use mathlib.Core.Path.{◌≡◌, refl, sym, subst}
 use mathlib.Core.Logic.{◌↔◌}
 use mathlib.Core.Bool.{So}
 use mathlib.Core.List.{List, [], ◌∷◌, Memᴰ}
-use mathlib.Core.Option.{Option, none, some}
+use Rattle.std.specs.Prelude.{slice_get, Option, None, Some}
 use Prim.Native.Nat.{ℕ, zero, suc, ◌≤◌, ◌<◌}
 use native.Mathlib.Omega.{arith}
 use native.Mathlib.Decide.{dec_lt}
-use lib.ListN.{length, get_or, get_elem?}
+use lib.ListN.{length, get_or}
 use Rattle.figures.specs.declared.Place.TheVariants as place
 use Rattle.figures.specs.declared.Refusal.TheVariants.{NoSuch}
 use Rattle.figures.specs.Refusals.{refusal}
@@ -20,29 +20,29 @@ use Rattle.rows.specs.Rows.{Row}
 use Rattle.rows.specs.Checks.{condition_at, occurrences, occurrence_at, occurrence_of}
 
 -- what is found at a place is in the list, and is what the list has there
-found : (l : List ℕ) (k : ℕ) {p : ℕ} → occurrence_at (get_elem? l k) ≡ gives p → Memᴰ p l × (p ≡ get_or l k 0)
+found : (l : List ℕ) (k : ℕ) {p : ℕ} → occurrence_at (slice_get l k) ≡ gives p → Memᴰ p l × (p ≡ get_or l k 0)
 found [] k e = not_both refl e
 found (x ∷ l) zero {p} e = let q : p ≡ x = cc in (Memᴰ.head q, q)
 found (x ∷ l) (suc k) e = let h = found l k e in (Memᴰ.tail h.0, h.1)
 
 -- a place inside the list, and one that is not
-inside : (l : List ℕ) (k : ℕ) → k < length l → occurrence_at (get_elem? l k) ≡ gives (get_or l k 0)
+inside : (l : List ℕ) (k : ℕ) → k < length l → occurrence_at (slice_get l k) ≡ gives (get_or l k 0)
 inside [] k h = absurd (omega arith)
 inside (x ∷ l) zero h = refl
 inside (x ∷ l) (suc k) h = inside l k (omega arith)
 
-outside : (l : List ℕ) (k : ℕ) → length l ≤ k → occurrence_at (get_elem? l k) ≡ refusal NoSuch
+outside : (l : List ℕ) (k : ℕ) → length l ≤ k → occurrence_at (slice_get l k) ≡ refusal NoSuch
 outside [] k h = refl
 outside (x ∷ l) zero h = absurd (omega arith)
 outside (x ∷ l) (suc k) h = outside l k (omega arith)
 
 module _ (rows : List Row) (k : ℕ) where
   pub occurrence_numbered : Numbered (occurrence_of rows k) 12
-  occurrence_numbered = go (get_elem? (occurrences rows) k)
+  occurrence_numbered = go (slice_get (occurrences rows) k)
     where
       go : (o : Option ℕ) → Numbered (occurrence_at o) 12
-      go none m p e = sym (same_number e)
-      go (some r) m p e = not_both e refl
+      go None m p e = sym (same_number e)
+      go (Some r) m p e = not_both e refl
 
   pub occurrence_there : k < length (occurrences rows) → occurrence_of rows k ≡ gives (get_or (occurrences rows) k 0)
   occurrence_there = inside (occurrences rows) k

@@ -11,7 +11,7 @@ use lib.Dec.{eqb}
 use lib.ListN.{length, get_or, set, length-set}
 use lib.Seq.{get_or-set_same, get_or-set_other}
 use Rattle.lengths.specs.Lengths.{most_requirement_rows}
-use Rattle.rows.specs.Rows.{kind_of}
+use Rattle.rows.specs.declared.Kind.{Kind}
 use Rattle.signals.specs.Truth.{bit}
 use Rattle.signals.specs.Column.{cell}
 use Rattle.lanes.specs.Lanes.{lane_count, lane}
@@ -36,30 +36,17 @@ module _ (lines : List ℕ) (row t v : ℕ) where
   put_later t' l = get_or-set_other lines (block_steps * row + t) (block_steps * row + t') v 0 (λ e. omega arith)
 
 -- the line is written from step t on, and nothing else is
-pub record Passed (kind : ℕ) (line : Line) (words : List ℕ) (steps : ℕ) (before lines : List ℕ) (t : ℕ) : Type 0 where
+pub record Passed (kind : Kind) (line : Line) (words : List ℕ) (steps : ℕ) (before lines : List ℕ) (t : ℕ) : Type 0 where
   pub size : length lines ≡ block_words
   pub kept : (r t' : ℕ) → t' < block_steps → (r ≡ line.row → t' < t) → line_at lines r t' ≡ line_at before r t'
   pub cells : (t' : ℕ) → t ≤ t' → t' < steps → CellAt kind line words steps before lines t'
 
--- a line is that of every number of its kind
-pub same_kind :
-    {kind kind' : ℕ} {line : Line} {words : List ℕ} {steps : ℕ} {before after : List ℕ} → kind_of kind ≡ kind_of kind' →
-    Lined kind line words steps before after → Lined kind' line words steps before after
-same_kind e p = record { size = p.size; cells = λ t l k lk. p.cells t l k lk ∙ rw e; others = p.others }
-
-module _ (kind : ℕ) (line : Line) (words : List ℕ) (steps : ℕ) (before : List ℕ) where
-  pub none_passed : length before ≡ block_words → Passed kind line words steps before before steps
-  none_passed size = record { size = size; kept = λ r t' l h. refl; cells = λ t' l h. absurd (omega arith) }
-
-  pub all_passed : (lines : List ℕ) → Passed kind line words steps before lines 0 → Lined kind line words steps before lines
-  all_passed lines p =
-      record { size = p.size; cells = λ t l. p.cells t (omega arith) l; others = λ r t l d. p.kept r t l (λ e. absurd (d e)) }
-
+module _ (kind : Kind) (line : Line) (words : List ℕ) (steps : ℕ) (before : List ℕ) where
   -- one step more: the value is the row's cell in every lane, by words that are those of the lines
   pub step_passed :
       (lines : List ℕ) (t v own a b a_next next ends : ℕ) → line.row < most_requirement_rows → steps ≤ block_steps → t < steps →
       Passed kind line words steps before lines (suc t) →
-      ((k : ℕ) → k < lane_count → lane v k ≡ cell (kind_of kind) (lane own k) (lane a k) (lane b k) (lane a_next k) (lane next k) (lane ends k)) →
+      ((k : ℕ) → k < lane_count → lane v k ≡ cell kind (lane own k) (lane a k) (lane b k) (lane a_next k) (lane next k) (lane ends k)) →
       ((k : ℕ) → k < lane_count → lane own k ≡ cond (lane line.keep k) (bit (get_or words t 0) line.first) (lane line.flips k)) →
       a ≡ line_at before line.first t → b ≡ line_at before line.second t →
       a_next ≡ ahead_at steps line.first_after before line.first (suc t) →

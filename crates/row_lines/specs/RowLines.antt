@@ -2,7 +2,7 @@
 -- Assumes nothing.
 use Rattle.std.specs.Prelude.{◌≡◌, cond, ◌&&◌, List, ℕ, suc, ◌+◌, ◌*◌, ◌<◌, eqb, length, get_or}
 use Rattle.lengths.specs.Lengths.{most_requirement_rows}
-use Rattle.rows.specs.Rows.{kind_of}
+use Rattle.rows.specs.declared.Kind.{Kind}
 use Rattle.signals.specs.Truth.{bit}
 use Rattle.signals.specs.Column.{cell}
 use Rattle.lanes.specs.Lanes.{lane_count, lane}
@@ -30,11 +30,11 @@ pub record Fits (line : Line) : Type 0 where
   pub second_inside : line.second < most_requirement_rows
 
 -- a row's word at step t is its cell in every lane, from the lines before its own was written
-abbrev pub CellAt : ℕ → Line → List ℕ → ℕ → List ℕ → List ℕ → ℕ → Type 0
+abbrev pub CellAt : Kind → Line → List ℕ → ℕ → List ℕ → List ℕ → ℕ → Type 0
 CellAt kind line words steps before after t =
     (k : ℕ) → k < lane_count →
     lane (line_at after line.row t) k
-    ≡ cell (kind_of kind) (cond (lane line.keep k) (bit (get_or words t 0) line.first) (lane line.flips k))
+    ≡ cell kind (cond (lane line.keep k) (bit (get_or words t 0) line.first) (lane line.flips k))
     (lane (line_at before line.first t) k) (lane (line_at before line.second t) k)
     (lane (ahead_at steps line.first_after before line.first (suc t)) k) (lane (ahead_at steps line.row_after after line.row (suc t)) k)
     (line.last && eqb (suc t) steps)
@@ -44,7 +44,7 @@ abbrev pub OthersSame : ℕ → List ℕ → List ℕ → Type 0
 OthersSame row before after = (r t : ℕ) → t < block_steps → (r ≡ row → ⊥) → line_at after r t ≡ line_at before r t
 
 -- what is written of a row
-pub record Lined (kind : ℕ) (line : Line) (words : List ℕ) (steps : ℕ) (before after : List ℕ) : Type 0 where
+pub record Lined (kind : Kind) (line : Line) (words : List ℕ) (steps : ℕ) (before after : List ℕ) : Type 0 where
   pub size : length after ≡ block_words
   pub cells : (t : ℕ) → t < steps → CellAt kind line words steps before after t
   pub others : OthersSame line.row before after

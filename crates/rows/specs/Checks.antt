@@ -1,23 +1,20 @@
 -- The checks behind refusals 8 and 9, and the occurrences of a requirement.
 -- Assumes nothing.
-use Rattle.std.specs.Prelude.{◌≡◌, Bool, false, not, cond, ◌&&◌, ◌||◌, List, [], ◌∷◌, ℕ, zero, suc, ◌+◌, ◌<◌, ltb, eqb, length}
+use Rattle.std.specs.Prelude.{◌≡◌, Result, Some, None, Bool, false, not, cond, ◌&&◌, ◌||◌, List, [], ◌∷◌, ℕ, zero, suc, ◌+◌, ◌<◌, ltb, eqb, length}
 use Rattle.std.proofs.Math.Bool.{So}
-use Rattle.std.proofs.Math.Option.{Option, none, some}
-use Rattle.std.proofs.Math.ListN.{get_elem?}
+use Rattle.std.specs.Prelude.{slice_get, Option, None, Some}
 use Rattle.figures.specs.declared.RowPlace.{RowPlace}
 use Rattle.figures.specs.declared.RowPlace.TheVariants as row_place
+use Rattle.figures.specs.declared.RowNumber.{RowNumber}
+use Rattle.figures.specs.declared.Refusal.{Refusal}
 use Rattle.figures.specs.declared.Refusal.TheVariants.{UnsoundRow, NotRequirement, NoSuch}
-use Rattle.figures.specs.Refusals.{Outcome, refusal, ◌then◌}
+use Rattle.figures.specs.Refusals.{Outcome, refusal, result_says, ◌then◌}
 use Rattle.figures.specs.Refusals.Outcome.{gives}
 use Rattle.limits.specs.Limits.{suite_of}
-use Rattle.lengths.specs.Lengths.{table_of, requirement_of}
+use Rattle.lengths.specs.Lengths.{rows_of, most_table_rows, most_requirement_rows}
 use Rattle.figures.specs.Numbers.{below, lowest, refused_at}
 use Rattle.rows.specs.declared.Fields.{Fields}
 use Rattle.rows.specs.declared.Fields.TheVariants as fields
-use Rattle.rows.specs.declared.OccurrenceAnswer.{OccurrenceAnswer}
-use Rattle.rows.specs.declared.OccurrenceAnswer.TheVariants as occurrence_answer
-use Rattle.rows.specs.declared.RowFound.{RowFound}
-use Rattle.rows.specs.declared.RowFound.TheVariants as row_found
 use Rattle.rows.specs.Rows.{Row, kind_number, kind, first, second, row_at, fields_of, named}
 
 -- "A row may name only lower rows", a field that is not used is 0, a condition is one of the suite
@@ -99,25 +96,28 @@ requirement_rows conditions rows = rows_checked conditions rows then λ _. requi
 
 -- 12, "no such occurrence"; else its row
 abbrev pub occurrence_at : Option ℕ → Outcome ℕ
-occurrence_at none = refusal NoSuch
-occurrence_at (some r) = gives r
+occurrence_at None = refusal NoSuch
+occurrence_at (Some r) = gives r
 
 abbrev pub occurrence_of : List Row → ℕ → Outcome ℕ
-occurrence_of rows k = occurrence_at (get_elem? (occurrences rows) k)
+occurrence_of rows k = occurrence_at (slice_get (occurrences rows) k)
 
--- 3 and 7 on a lone formula table, and on a lone requirement, of so many bytes
+-- 3 and 7 on a lone table of so many bytes, which may have so many rows
+abbrev pub sized : ℕ → ℕ → ℕ → Outcome (Unit {0})
+sized most conditions bytes = suite_of conditions 1 1 then λ _. rows_of most bytes then λ _. gives tt
+
+-- on a lone formula table, and on a lone requirement
 abbrev pub table_sized : ℕ → ℕ → Outcome (Unit {0})
-table_sized conditions bytes = suite_of conditions 1 1 then λ _. table_of bytes then λ _. gives tt
+table_sized = sized most_table_rows
 
 abbrev pub requirement_sized : ℕ → ℕ → Outcome (Unit {0})
-requirement_sized conditions bytes = suite_of conditions 1 1 then λ _. requirement_of bytes then λ _. gives tt
+requirement_sized = sized most_requirement_rows
 
 -- what a search for a row found
-abbrev pub found_row : RowFound → Option ℕ
-found_row (row_found.At r) = some r.0
-found_row row_found.Nowhere = none
+abbrev pub found_row : Option RowNumber → Option ℕ
+found_row (Some r) = Some r.0
+found_row None = None
 
 -- what asking for an occurrence's row answers
-abbrev pub occurrence_says : OccurrenceAnswer → Outcome ℕ
-occurrence_says (occurrence_answer.Row r) = gives r.0
-occurrence_says (occurrence_answer.Refused r) = refusal r
+abbrev pub occurrence_says : Result RowNumber Refusal → Outcome ℕ
+occurrence_says = result_says (λ r. r.0)

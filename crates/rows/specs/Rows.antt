@@ -1,13 +1,12 @@
 -- Formula rows and what they name: document 01, "Formula rows".
 -- Assumes nothing.
 use Rattle.std.specs.Prelude.{List, [], ◌∷◌, ℕ, get_or}
+use Rattle.rows.specs.declared.Kind.{Kind}
+use Rattle.rows.specs.declared.Kind.TheVariants.{False, True, Condition, Not, And, Or, StrongNext, WeakNext, Until, Release, Finally, Globally, WeakUntil, Unknown}
 use Rattle.rows.specs.declared.Fields.{Fields}
 use Rattle.rows.specs.declared.Fields.TheVariants as fields
 
 -- "Kinds 0 to 12 are the only kinds"
-pub data Kind : Type 0 where
-  False True Condition Not And Or StrongNext WeakNext Until Release Finally Globally WeakUntil Unknown : Kind
-
 abbrev pub kinds : List Kind
 kinds =
     False ∷ True ∷ Condition ∷ Not ∷ And ∷ Or ∷ StrongNext ∷ WeakNext ∷ Until ∷ Release ∷ Finally ∷ Globally ∷ WeakUntil ∷ []

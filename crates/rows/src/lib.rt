@@ -2,11 +2,30 @@
 // A row is three numbers, as document 01 has them: kind, first, second.
 #![tactic(auto)]
 
-ghost use Rattle.std.specs.Prelude.{◌≡◌, cond, ◌≤◌, ◌<◌};
+ghost use Rattle.std.specs.Prelude.{◌≡◌, ◌≤◌, ◌<◌};
 ghost use Rattle.rows.specs.Rows.{kind_of, fields_of, row_at};
-ghost use Rattle.rows.specs.Checks.{row_sound, is_condition};
+ghost use Rattle.rows.specs.Checks.{row_sound, is_condition, is_not};
 
-use figures::{ConditionCount, Refusal, RowNumber};
+use figures::{ConditionCount, RowNumber};
+
+// "Kinds 0 to 12 are the only kinds": document 01's table, line by line, and what every other number is.
+#[derive(Clone, Copy, PartialEq, Eq)]
+pub enum Kind {
+    False,
+    True,
+    Condition,
+    Not,
+    And,
+    Or,
+    StrongNext,
+    WeakNext,
+    Until,
+    Release,
+    Finally,
+    Globally,
+    WeakUntil,
+    Unknown,
+}
 
 // What the two fields of a row hold, by its kind.
 #[derive(Clone, Copy)]
@@ -18,33 +37,46 @@ pub enum Fields {
     Unknown,
 }
 
-// The lowest row that a search found.
-#[derive(Clone, Copy)]
-pub enum RowFound {
-    At(RowNumber),
-    Nowhere,
+impl From<u16> for Kind {
+    ghost from_gives = { λ number kind. kind ≡ kind_of number };
+
+    #[inline]
+    fn from(number: u16) -> Kind {
+        match number {
+            0 => Kind::False,
+            1 => Kind::True,
+            2 => Kind::Condition,
+            3 => Kind::Not,
+            4 => Kind::And,
+            5 => Kind::Or,
+            6 => Kind::StrongNext,
+            7 => Kind::WeakNext,
+            8 => Kind::Until,
+            9 => Kind::Release,
+            10 => Kind::Finally,
+            11 => Kind::Globally,
+            12 => Kind::WeakUntil,
+            _ => Kind::Unknown,
+        }
+    }
 }
 
-// What asking for an occurrence's row answers.
-#[derive(Clone, Copy)]
-pub enum OccurrenceAnswer {
-    Row(RowNumber),
-    Refused(Refusal),
-}
-
-pub fn fields_of(kind: u16) -> Fields
-    ensures { result ≡ fields_of (kind_of kind) }
-{
-    match kind {
-        0..=1 => Fields::Neither,
-        2 => Fields::Condition,
-        3 => Fields::OneRow,
-        4..=5 => Fields::TwoRows,
-        6..=7 => Fields::OneRow,
-        8..=9 => Fields::TwoRows,
-        10..=11 => Fields::OneRow,
-        12 => Fields::TwoRows,
-        13..=u16::MAX => Fields::Unknown,
+impl Kind {
+    #[inline]
+    pub fn fields(self) -> Fields
+        ensures { result ≡ fields_of self }
+    {
+        match self {
+            Kind::False | Kind::True => Fields::Neither,
+            Kind::Condition => Fields::Condition,
+            Kind::Not => Fields::OneRow,
+            Kind::And | Kind::Or => Fields::TwoRows,
+            Kind::StrongNext | Kind::WeakNext => Fields::OneRow,
+            Kind::Until | Kind::Release => Fields::TwoRows,
+            Kind::Finally | Kind::Globally => Fields::OneRow,
+            Kind::WeakUntil => Fields::TwoRows,
+            Kind::Unknown => Fields::Unknown,
+        }
     }
 }
 
@@ -52,34 +84,34 @@ pub fn fields_of(kind: u16) -> Fields
 pub fn row_sound(row: [u16; 3], at: RowNumber, conditions: ConditionCount) -> bool
     ensures { result ≡ row_sound conditions.0 at.0 row }
 {
-    let first = row[1] as usize;
-    let second = row[2] as usize;
-    let r = at.0;
-    let many = conditions.0;
-    match fields_of(row[0]) {
-        Fields::Neither => (first == 0) & (second == 0),
-        Fields::Condition => (first < many) & (second == 0),
-        Fields::OneRow => (first < r) & (second == 0),
-        Fields::TwoRows => (first < r) & (second < r),
+    let first = usize::from(row[1]);
+    let second = usize::from(row[2]);
+    match Kind::from(row[0]).fields() {
+        Fields::Neither => first == 0 && second == 0,
+        Fields::Condition => first < conditions.0 && second == 0,
+        Fields::OneRow => first < at.0 && second == 0,
+        Fields::TwoRows => first < at.0 && second < at.0,
         Fields::Unknown => false,
     }
 }
 
-// One more to a count, where something holds.
-pub fn one_if(holds: bool) -> usize
-    ensures { (result ≡ cond holds 1 0) × (result ≤ 1) }
+// Whether a row is a condition.
+pub fn is_condition_row(row: [u16; 3]) -> bool
+    ensures { result ≡ is_condition row }
 {
-    if holds { 1 } else { 0 }
+    Kind::from(row[0]) == Kind::Condition
+}
+
+// Whether a row is "not".
+pub fn is_not_row(row: [u16; 3]) -> bool
+    ensures { result ≡ is_not row }
+{
+    matches!(Kind::from(row[0]), Kind::Not)
 }
 
 // Whether row r is a condition; past the last row nothing is.
 pub fn is_condition(rows: &[[u16; 3]], r: RowNumber) -> bool
     ensures { result ≡ is_condition (row_at rows.now r.0) }
 {
-    let at = r.0;
-    if at < rows.len() {
-        rows[at][0] == 2
-    } else {
-        false
-    }
+    rows.get(r.0).is_some_and(|row| is_condition_row(*row))
 }

@@ -1,8 +1,9 @@
 -- The trap table of an occurrence: document 01, "Trap rows".
 -- Assumes nothing.
 use Rattle.std.specs.Prelude.{Bool, true, false, cond, ◌||◌, List, [], ◌∷◌, ◌++◌, ℕ, suc, ◌+◌, eqb, length}
-use Rattle.rows.specs.Rows.{Kind, Row, row, kind, first, second, named}
-use Rattle.rows.specs.Rows.Kind.{False, True, Condition, Not, And, Or, StrongNext, WeakNext, Until, Release, Finally, Globally, WeakUntil, Unknown}
+use Rattle.rows.specs.declared.Kind.{Kind}
+use Rattle.rows.specs.Rows.{Row, row, kind, first, second, named}
+use Rattle.rows.specs.declared.Kind.TheVariants.{False, True, Condition, Not, And, Or, StrongNext, WeakNext, Until, Release, Finally, Globally, WeakUntil, Unknown}
 
 -- the rows that are added, by their kind
 abbrev pub not_row : ℕ → Row

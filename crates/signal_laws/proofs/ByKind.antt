@@ -7,8 +7,9 @@ use Prim.Native.Nat.{ℕ, zero, suc}
 use lib.ListN.{get_or}
 use Rattle.rows.specs.declared.Fields.{Fields}
 use Rattle.rows.specs.declared.Fields.TheVariants as fields
-use Rattle.rows.specs.Rows.{Kind, kinds, kind_of, named_by}
-use Rattle.rows.specs.Rows.Kind.{False, True, Condition, Not, And, Or, StrongNext, WeakNext, Until, Release, Finally, Globally, WeakUntil, Unknown}
+use Rattle.rows.specs.declared.Kind.{Kind}
+use Rattle.rows.specs.Rows.{kinds, kind_of, named_by}
+use Rattle.rows.specs.declared.Kind.TheVariants.{False, True, Condition, Not, And, Or, StrongNext, WeakNext, Until, Release, Finally, Globally, WeakUntil, Unknown}
 use Rattle.rows.specs.Checks.{All}
 use Rattle.signal_laws.proofs.Bools.{left, right}
 

@@ -1,5 +1,6 @@
 -- The column engine: a column grows by one value; and a column that is right for a step, from one that is right for the next.
 -- Assumes nothing.
+use Rattle.std.specs.Prelude.{Option, Some, None}
 use mathlib.Core.Path.{◌≡◌, refl, sym, ◌∙◌, ap, subst}
 use mathlib.Core.Bool.{Bool, true, false, cond}
 use mathlib.Core.List.{List}
@@ -10,10 +11,10 @@ use borrow.Author.Tests.{eqb-false}
 use lib.Dec.{eqb}
 use lib.ListN.{length, get_or, set}
 use lib.Seq.{get_or-set_same, get_or-set_other}
-use Rattle.rows.specs.Rows.{Kind, Row, kind, first, second, row_at, named}
+use Rattle.rows.specs.declared.Kind.{Kind}
+use Rattle.rows.specs.Rows.{Row, kind, first, second, row_at, named}
 use Rattle.rows.specs.Checks.{All}
-use Rattle.signals.specs.declared.Flip.{Flip}
-use Rattle.signals.specs.declared.Flip.TheVariants as flips
+use Rattle.figures.specs.declared.RowNumber.{RowNumber}
 use Rattle.signals.specs.Signals.{Signal}
 use Rattle.signals.specs.Truth.{Reading, own_of, reads_of, truth_of, sequence_of}
 use Rattle.signals.specs.Column.{cell, cell_of, Cells, FitIn, own_by, reads_at, reading_of}
@@ -98,10 +99,10 @@ one_step rows fit reads n i l here after own same cells next = lower_induction r
 
 -- what the rows read at a step is their reading at that step
 pub read_there :
-    (rows : List Row) (run : List ℕ) (f : Flip) (sequence : List ℕ) (i r : ℕ) →
+    (rows : List Row) (run : List ℕ) (f : Option RowNumber) (sequence : List ℕ) (i r : ℕ) →
     own_by rows (reads_at (get_or run i 0) f sequence i) r ≡ reading_of rows run f sequence r i
-read_there rows run flips.Nowhere sequence i r = refl
-read_there rows run (flips.At p) sequence i r = go (eqb r p.0)
+read_there rows run None sequence i r = refl
+read_there rows run (Some p) sequence i r = go (eqb r p.0)
   where
     go : (b : Bool) → cond b (sequence_of sequence i) (own_of rows (get_or run i 0) r) ≡ cond b (sequence_of sequence) (reads_of rows run r) i
     go true = refl

@@ -5,8 +5,9 @@ use mathlib.Core.List.{List, [], ◌∷◌, ◌++◌}
 use Prim.Native.Nat.{ℕ, zero, suc, ◌<◌}
 use native.Mathlib.Omega.{arith}
 use lib.ListN.{length, length-append, get_or-append}
-use Rattle.rows.specs.Rows.{Kind, Row, kind, first, second, row_at, fields_of, named}
-use Rattle.rows.specs.Rows.Kind.{False, True, Condition, Not, And, Or, StrongNext, WeakNext, Until, Release, Finally, Globally, WeakUntil, Unknown}
+use Rattle.rows.specs.declared.Kind.{Kind}
+use Rattle.rows.specs.Rows.{Row, kind, first, second, row_at, fields_of, named}
+use Rattle.rows.specs.declared.Kind.TheVariants.{False, True, Condition, Not, And, Or, StrongNext, WeakNext, Until, Release, Finally, Globally, WeakUntil, Unknown}
 use Rattle.rows.specs.Checks.{All}
 use Rattle.signals.specs.Signals.{Signal, negation, both, either, strong_next, weak_next, until, release, finally, globally, weak_until}
 use Rattle.signals.specs.Truth.{meaning, row_meaning, Reading, deep, truth_of}

@@ -10,8 +10,9 @@ use native.Mathlib.Omega.{arith}
 use native.Mathlib.Decide.{ℕ_discrete}
 use borrow.Author.Tests.{eqb-true, eq-eqb, ltb-true, lt-ltb}
 use lib.ListN.{length}
-use Rattle.rows.specs.Rows.{Kind, Row, kind, first, second, row_at}
-use Rattle.rows.specs.Rows.Kind.{False, True, Condition, Not, And, Or, StrongNext, WeakNext, Until, Release, Finally, Globally, WeakUntil, Unknown}
+use Rattle.rows.specs.declared.Kind.{Kind}
+use Rattle.rows.specs.Rows.{Row, kind, first, second, row_at}
+use Rattle.rows.specs.declared.Kind.TheVariants.{False, True, Condition, Not, And, Or, StrongNext, WeakNext, Until, Release, Finally, Globally, WeakUntil, Unknown}
 use Rattle.signals.specs.Signals.{Signal, some, every, negation, both, either, strong_next, weak_next, until, release, finally, globally, weak_until}
 use Rattle.signals.specs.Truth.{meaning, Reading, truth_of}
 use Rattle.signal_laws.proofs.Unfold.{dual}

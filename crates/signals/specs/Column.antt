@@ -1,14 +1,13 @@
 -- The column engine, one step at a time. What it computes is proved to be truth; nobody needs to believe this page.
 -- Assumes nothing.
-use Rattle.std.specs.Prelude.{◌≡◌, Bool, true, false, not, cond, ◌&&◌, ◌||◌, List, ℕ, ◌<◌, ◌≤◌, eqb, length, get_or}
+use Rattle.std.specs.Prelude.{◌≡◌, Option, Some, None, Bool, true, false, not, cond, ◌&&◌, ◌||◌, List, ℕ, ◌<◌, ◌≤◌, eqb, length, get_or}
 use Rattle.lengths.specs.Lengths.{most_table_rows}
-use Rattle.rows.specs.Rows.{Kind, Row, kind, first, second, row_at, named}
-use Rattle.rows.specs.Rows.Kind.{False, True, Condition, Not, And, Or, StrongNext, WeakNext, Until, Release, Finally, Globally, WeakUntil, Unknown}
+use Rattle.rows.specs.declared.Kind.{Kind}
+use Rattle.rows.specs.Rows.{Row, kind, first, second, row_at, named}
+use Rattle.rows.specs.declared.Kind.TheVariants.{False, True, Condition, Not, And, Or, StrongNext, WeakNext, Until, Release, Finally, Globally, WeakUntil, Unknown}
 use Rattle.rows.specs.Checks.{All}
-use Rattle.signals.specs.declared.Flip.{Flip}
-use Rattle.signals.specs.declared.Flip.TheVariants as flips
+use Rattle.figures.specs.declared.RowNumber.{RowNumber}
 use Rattle.signals.specs.declared.Reads.{Reads}
-use Rattle.signals.specs.declared.Reads.TheVariants as reads
 use Rattle.signals.specs.Truth.{sequence_of, Reading, bit, reads_of, flip}
 
 -- own: what a condition reads; a, b: the children now; a-next, next: the first child and the row itself at the next step; last: there is none
@@ -49,18 +48,21 @@ abbrev pub Fit : List Row → Type 0
 Fit = FitIn most_table_rows
 
 -- what a condition row reads at a step, from its word or, at a flipped row, a value of its own
+abbrev pub read_by : ℕ → Option (RowNumber × Bool) → ℕ → ℕ → Bool
+read_by word None condition r = bit word condition
+read_by word (Some (p, value)) condition r = cond (eqb r p.0) value (bit word condition)
+
 abbrev pub read_of : Reads → ℕ → ℕ → Bool
-read_of (reads.Word word) condition r = bit word condition
-read_of (reads.Flipped word p value) condition r = cond (eqb r p.0) value (bit word condition)
+read_of reads = read_by reads.word reads.own
 
 abbrev pub own_by : List Row → Reads → ℕ → Bool
 own_by rows what r = read_of what (first (row_at rows r)) r
 
-abbrev pub reads_at : ℕ → Flip → List ℕ → ℕ → Reads
-reads_at word flips.Nowhere sequence i = reads.Word word
-reads_at word (flips.At p) sequence i = reads.Flipped word p (sequence_of sequence i)
+abbrev pub reads_at : ℕ → Option RowNumber → List ℕ → ℕ → Reads
+reads_at word None sequence i = record { word = word; own = None }
+reads_at word (Some p) sequence i = record { word = word; own = Some (p, sequence_of sequence i) }
 
 -- what the condition rows read of a run, one of them perhaps a sequence
-abbrev pub reading_of : List Row → List ℕ → Flip → List ℕ → Reading
-reading_of rows run flips.Nowhere sequence = reads_of rows run
-reading_of rows run (flips.At p) sequence = flip p.0 (sequence_of sequence) (reads_of rows run)
+abbrev pub reading_of : List Row → List ℕ → Option RowNumber → List ℕ → Reading
+reading_of rows run None sequence = reads_of rows run
+reading_of rows run (Some p) sequence = flip p.0 (sequence_of sequence) (reads_of rows run)

@@ -1,11 +1,12 @@
 -- The truth of a row at a step of a run, and the verdict: document 01, "Truth over a run".
 -- Assumes nothing.
 use Rattle.std.specs.Prelude.{Bool, true, false, not, cond, ◌&&◌, List, ℕ, zero, suc, ◌-◌, ◌^◌, ◌/◌, ◌%◌, ltb, eqb, length, get_or}
-use Rattle.std.proofs.Math.Option.{Option}
+use Rattle.std.specs.Prelude.{Option}
 use Rattle.limits.specs.Limits.{most_conditions}
 use Rattle.figures.specs.Numbers.{lowest}
-use Rattle.rows.specs.Rows.{Kind, Row, kind, first, second, row_at}
-use Rattle.rows.specs.Rows.Kind.{False, True, Condition, Not, And, Or, StrongNext, WeakNext, Until, Release, Finally, Globally, WeakUntil, Unknown}
+use Rattle.rows.specs.declared.Kind.{Kind}
+use Rattle.rows.specs.Rows.{Row, kind, first, second, row_at}
+use Rattle.rows.specs.declared.Kind.TheVariants.{False, True, Condition, Not, And, Or, StrongNext, WeakNext, Until, Release, Finally, Globally, WeakUntil, Unknown}
 use Rattle.signals.specs.Signals.{Signal, every, negation, both, either, strong_next, weak_next, until, release, finally, globally, weak_until}
 
 -- the meaning of a row of a kind, from what it reads if it is a condition and from the meanings v of the rows that it names

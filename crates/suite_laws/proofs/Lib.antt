@@ -13,8 +13,6 @@ pub mod Inside
 pub mod Cut
 pub mod Found
 pub mod Accepted
-pub mod Pick
-pub mod Clamped
 pub mod Searched
 pub mod Sizes
 pub mod Turn

@@ -4,7 +4,7 @@ use mathlib.Core.Path.{◌≡◌, refl, sym, ◌∙◌, ap, subst}
 use mathlib.Core.Logic.Iff
 use mathlib.Core.Logic.{◌↔◌}
 use mathlib.Core.Bool.{Bool}
-use mathlib.Core.Option.{Option, none, some}
+use Rattle.std.specs.Prelude.{Option, None, Some}
 use Prim.Native.Nat.{ℕ, suc, ◌≤◌, ◌<◌}
 use native.Mathlib.Omega.{arith}
 use Rattle.figures.specs.declared.Place.{Place}
@@ -61,5 +61,5 @@ lowest_at at n place is m f p = (
     same_place e = cc
 
     go : (l : Option ℕ) → lowest m 0 f ≡ l → refused_at at l ≡ refused n p → (k : ℕ) × ((p ≡ place k) × Lowest f m 0 k)
-    go none q e = not_both e refl
-    go (some k) q e = (k, (same_place (sym (is k) ∙ e), lowest_is m 0 f k q))
+    go None q e = not_both e refl
+    go (Some k) q e = (k, (same_place (sym (is k) ∙ e), lowest_is m 0 f k q))

@@ -16,7 +16,8 @@ use Rattle.figures.specs.Refusals.{◌then◌}
 use Rattle.limits.specs.Limits.{most_conditions}
 use Rattle.figures.specs.Numbers.{refused_at}
 use Rattle.laws.proofs.Order.{Passes, both_pass, lowest_passes}
-use Rattle.rows.specs.Rows.{Row, Kind, kind_number, first, second, row_at, fields_of}
+use Rattle.rows.specs.declared.Kind.{Kind}
+use Rattle.rows.specs.Rows.{Row, kind_number, first, second, row_at, fields_of}
 use Rattle.codec.specs.Codec.{rows_of, bytes_of_row, bytes_of}
 use Rattle.rows.specs.Checks.{lone_row, fields_sound, row_sound, lowest_unsound, lowest_unrequired, requirement_rows}
 use Rattle.rows.proofs.KindNumbers.{unknown}

@@ -66,12 +66,3 @@ turn_stopped m q f {n} {p} passed l e =
 
 pub turn_all : (m : ℕ) (f : ℕ → Outcome (Unit {0})) → ((k : ℕ) → k < m → f k ≡ gives tt) → gives tt ≡ in_turn m 0 f
 turn_all m f passed = sym ((in_turn_passes m 0 f).1 (λ k a b. (tt, passed k (omega arith)))).1
-
--- one check more passed
-pub turn_more :
-    (f : ℕ → Outcome (Unit {0})) (q : ℕ) → ((k : ℕ) → k < q → f k ≡ gives tt) → f q ≡ gives tt → (k : ℕ) → k < q + 1 → f k ≡ gives tt
-turn_more f q before here k l = go (ℕ_discrete k q)
-  where
-    go : Dec (k ≡ q) → f k ≡ gives tt
-    go (yes e) = ap f e ∙ here
-    go (no e) = before k (omega arith)

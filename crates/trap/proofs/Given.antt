@@ -12,34 +12,28 @@ use lib.Dec.{leb}
 use lib.ListN.{length, get_or}
 use Rattle.figures.specs.declared.Place.{Place}
 use Rattle.figures.specs.declared.Place.TheVariants as place
+use Rattle.std.specs.Prelude.{Result}
+use Rattle.figures.specs.declared.ByteCount.{ByteCount}
+use Rattle.figures.specs.declared.Refusal.{Refusal}
 use Rattle.figures.specs.declared.Refusal.TheVariants.{TrapRows}
 use Rattle.figures.specs.Refusals.{Outcome, refusal, ◌then◌}
 use Rattle.figures.specs.Refusals.Outcome.{refused, gives}
 use Rattle.lengths.specs.Lengths.{row_bytes, most_table_rows}
 use Rattle.laws.proofs.Given.{refused_when, over_means}
 use Rattle.laws.proofs.Order.{Passes, Numbered, Never, instead, numbered_never, never_by, never_then, skip, skip_by, skip_never, stop, stop_by, passes, passes_by, test_numbered, test_passes, test_then, then_assoc}
-use Rattle.laws.proofs.Unique.{unique, read_back, read_refusal}
+use Rattle.laws.proofs.Unique.{result_unique}
 use Rattle.rows.specs.Rows.{Row}
 use Rattle.codec.specs.Codec.{rows_of, encode_of}
 use Rattle.rows.specs.Checks.{requirement_sized, requirement_rows, occurrences, occurrence_of}
 use Rattle.row_laws.proofs.Given.{encode_numbered, given_14 as encode_refused, given_written as encode_gives}
 use Rattle.row_laws.proofs.Occurring.{occurrence_numbered, occurrence_gives, given_12 as no_occurrence}
 use Rattle.row_laws.proofs.Taken.{taken, Taken, taken_passes, never_taken}
-use Rattle.trap.specs.declared.Trapped.{Trapped}
-use Rattle.trap.specs.declared.Trapped.TheVariants as trapped
 use Rattle.rules.specs.TrapRows.{trap_table}
 use Rattle.trap.specs.Answers.{trap_says, trap_for, trap_of}
 
 -- two answers that say the same are equal
-abbrev written : ℕ → Trapped
-written n = trapped.Written (record { 0 = n })
-
-pub trap_unique : {a b : Trapped} {o : Outcome ℕ} → trap_says a ≡ o → trap_says b ≡ o → a ≡ b
-trap_unique = unique written trapped.Refused trap_says read
-  where
-    read : (a : Trapped) → read_back written trapped.Refused (trap_says a) ≡ a
-    read (trapped.Written bytes) = refl
-    read (trapped.Refused r) = read_refusal written trapped.Refused r
+pub trap_unique : {a b : Result ByteCount Refusal} {o : Outcome ℕ} → trap_says a ≡ o → trap_says b ≡ o → a ≡ b
+trap_unique = result_unique (λ bytes. bytes.0) (λ n. record { 0 = n }) (λ bytes. refl)
 
 -- 13 and 14 of a table, in order
 module _ (rows : List Row) (room p : ℕ) where

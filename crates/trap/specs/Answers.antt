@@ -1,21 +1,20 @@
 -- What the operation `trap` answers and writes: document 01, "Trap rows" and "Answers by number".
 -- Assumes nothing.
-use Rattle.std.specs.Prelude.{cond, List, ◌++◌, ℕ, ◌*◌, leb, length, drop, get_or}
+use Rattle.std.specs.Prelude.{Result, cond, List, ◌++◌, ℕ, ◌*◌, leb, length, drop, get_or}
+use Rattle.figures.specs.declared.ByteCount.{ByteCount}
+use Rattle.figures.specs.declared.Refusal.{Refusal}
 use Rattle.figures.specs.declared.Refusal.TheVariants.{TrapRows}
-use Rattle.figures.specs.Refusals.{Outcome, refusal, ◌then◌}
+use Rattle.figures.specs.Refusals.{Outcome, refusal, result_says, ◌then◌}
 use Rattle.figures.specs.Refusals.Outcome.{refused, gives}
 use Rattle.lengths.specs.Lengths.{row_bytes, most_table_rows}
 use Rattle.rows.specs.Rows.{Row}
 use Rattle.codec.specs.Codec.{rows_of, bytes_of, encode_of}
 use Rattle.rows.specs.Checks.{requirement_sized, requirement_rows, occurrence_of, occurrences}
-use Rattle.trap.specs.declared.Trapped.{Trapped}
-use Rattle.trap.specs.declared.Trapped.TheVariants as trapped
 use Rattle.rules.specs.TrapRows.{trap_table}
 
 -- what an answer says: the bytes written, or the refusal's number and place
-abbrev pub trap_says : Trapped → Outcome ℕ
-trap_says (trapped.Written bytes) = gives bytes.0
-trap_says (trapped.Refused r) = refusal r
+abbrev pub trap_says : Result ByteCount Refusal → Outcome ℕ
+trap_says = result_says (λ bytes. bytes.0)
 
 -- lent bytes with a table's bytes at the front
 abbrev pub table_written : List Row → List ℕ → List ℕ

@@ -11,7 +11,8 @@ use lib.Dec.{eqb, ltb}
 use lib.ListN.{length}
 use Rattle.rows.specs.declared.Fields.{Fields}
 use Rattle.rows.specs.declared.Fields.TheVariants as fields
-use Rattle.rows.specs.Rows.{Kind, Row, kind_number, kind, first, second, fields_of, named_by}
+use Rattle.rows.specs.declared.Kind.{Kind}
+use Rattle.rows.specs.Rows.{Row, kind_number, kind, first, second, fields_of, named_by}
 use Rattle.rows.specs.Checks.{All, times, is_not}
 use Rattle.signals.specs.Signals.{Signal}
 use Rattle.signal_laws.proofs.Bools.{◌⇒◌, apply}

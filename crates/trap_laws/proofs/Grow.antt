@@ -7,8 +7,9 @@ use Prim.Native.Nat.{ℕ, ◌+◌}
 use native.Mathlib.Nat.{add-zero}
 use lib.Dec.{ltb}
 use lib.ListN.{length}
-use Rattle.rows.specs.Rows.{Kind, Row, row_at, fields_of}
-use Rattle.rows.specs.Rows.Kind.{False, True, Condition, Not, And, Or, StrongNext, WeakNext, Until, Release, Finally, Globally, WeakUntil, Unknown}
+use Rattle.rows.specs.declared.Kind.{Kind}
+use Rattle.rows.specs.Rows.{Row, row_at, fields_of}
+use Rattle.rows.specs.declared.Kind.TheVariants.{False, True, Condition, Not, And, Or, StrongNext, WeakNext, Until, Release, Finally, Globally, WeakUntil, Unknown}
 use Rattle.signals.specs.Signals.{Signal, negation, both, either}
 use Rattle.signals.specs.Truth.{Reading, row_meaning}
 use Rattle.signal_laws.proofs.Bools.{all}

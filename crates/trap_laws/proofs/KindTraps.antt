@@ -4,7 +4,7 @@ use mathlib.Core.Path.{◌≡◌, refl, sym}
 use mathlib.Core.Bool.{Bool, true, false, not, ◌&&◌, ◌||◌, So, and-true, and-eq-true_iff}
 use Prim.Native.Nat.{ℕ, zero, suc, ◌<◌}
 use lib.Dec.{eqb}
-use Rattle.rows.specs.Rows.{Kind}
+use Rattle.rows.specs.declared.Kind.{Kind}
 use Rattle.signals.specs.Signals.{Signal}
 use Rattle.signals.specs.Truth.{meaning}
 use Rattle.signals.specs.Column.{cell}

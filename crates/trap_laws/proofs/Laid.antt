@@ -12,8 +12,9 @@ use lib.ListN.{length, length-append, get_or-append}
 use lib.Seq.{get_or-append-add}
 use Rattle.rows.specs.declared.Fields.{Fields}
 use Rattle.rows.specs.declared.Fields.TheVariants as fields
-use Rattle.rows.specs.Rows.{Kind, Row, kind, first, second, row_at, fields_of, named_by, named}
-use Rattle.rows.specs.Rows.Kind.{False, True, Condition, Not, And, Or, StrongNext, WeakNext, Until, Release, Finally, Globally, WeakUntil, Unknown}
+use Rattle.rows.specs.declared.Kind.{Kind}
+use Rattle.rows.specs.Rows.{Row, kind, first, second, row_at, fields_of, named_by, named}
+use Rattle.rows.specs.declared.Kind.TheVariants.{False, True, Condition, Not, And, Or, StrongNext, WeakNext, Until, Release, Finally, Globally, WeakUntil, Unknown}
 use Rattle.rows.specs.Checks.{All, times, fields_sound, row_sound}
 use Rattle.signal_laws.proofs.ByKind.{Needs}
 use Rattle.signal_laws.proofs.Model.{AllMap, Lower}

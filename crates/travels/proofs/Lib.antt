@@ -1,4 +1,3 @@
-pub mod Signs
 pub mod OneLine
 pub mod Given
 pub mod Unique

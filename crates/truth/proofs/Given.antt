@@ -3,13 +3,15 @@
 use mathlib.Core.Path.{◌≡◌, refl, sym, ◌∙◌, ap}
 use mathlib.Core.Logic.Iff
 use mathlib.Core.Logic.{◌↔◌}
-use mathlib.Core.Bool.{Bool, true, false}
+use mathlib.Core.Bool.{Bool}
 use mathlib.Core.List.{List}
 use Prim.Native.Nat.{ℕ}
 use native.Mathlib.Omega.{arith}
 use lib.ListN.{length, get_or}
 use Rattle.figures.specs.declared.Place.{Place}
 use Rattle.figures.specs.declared.Place.TheVariants as place
+use Rattle.std.specs.Prelude.{Result}
+use Rattle.figures.specs.declared.Refusal.{Refusal}
 use Rattle.figures.specs.declared.Refusal.TheVariants.{UnsoundRow, StrayBit}
 use Rattle.figures.specs.declared.StepPlace.TheVariants as step_place
 use Rattle.figures.specs.Refusals.{Outcome, ◌then◌, printed_place}
@@ -22,28 +24,17 @@ use Rattle.laws.proofs.Given.{Beyond, WrongLength, given_7 as table_refused, giv
 use Rattle.laws.proofs.Lowest.{Holds, Lowest}
 use Rattle.laws.proofs.Order.{Numbered, Never, skip, stop, never_then, never_gives, passes, then_assoc, lowest_numbered, lowest_passes, lowest_refused}
 use Rattle.laws.proofs.Passed.{Within, RightLength, lone_passes, lone_refused, suite_numbered, table_numbered, table_passes, run_numbered, run_passes}
-use Rattle.laws.proofs.Unique.{unique, read_back, read_refusal}
+use Rattle.laws.proofs.Unique.{result_unique}
 use Rattle.rows.specs.Rows.{row_at}
 use Rattle.codec.specs.Codec.{rows_of}
 use Rattle.rows.specs.Checks.{lone_row, row_sound, rows_checked}
 use Rattle.row_laws.proofs.Sound.{Sound}
-use Rattle.truth.specs.declared.Verdict.{Verdict}
-use Rattle.truth.specs.declared.Verdict.TheVariants as verdict
 use Rattle.signals.specs.Truth.{word_sound, lowest_stray, holds}
 use Rattle.truth.specs.Answers.{verdict_says, truth_says}
 
 -- two verdicts that say the same are equal
-abbrev judged : Bool → Verdict
-judged true = verdict.Holds
-judged false = verdict.Fails
-
-pub verdict_unique : {a b : Verdict} {o : Outcome Bool} → verdict_says a ≡ o → verdict_says b ≡ o → a ≡ b
-verdict_unique = unique judged verdict.Refused verdict_says read
-  where
-    read : (a : Verdict) → read_back judged verdict.Refused (verdict_says a) ≡ a
-    read verdict.Holds = refl
-    read verdict.Fails = refl
-    read (verdict.Refused r) = read_refusal judged verdict.Refused r
+pub verdict_unique : {a b : Result Bool Refusal} {o : Outcome Bool} → verdict_says a ≡ o → verdict_says b ≡ o → a ≡ b
+verdict_unique = result_unique (λ holds. holds) (λ holds. holds) (λ holds. refl)
 
 module _ (table run : List ℕ) (conditions : ℕ) where
   -- the five checks

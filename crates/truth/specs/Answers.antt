@@ -1,21 +1,18 @@
 -- What the operation `truth` answers: document 01, "Answers by number".
 -- Assumes nothing.
-use Rattle.std.specs.Prelude.{Bool, true, false, List, ℕ, length}
-use Rattle.figures.specs.Refusals.{Outcome, refusal, ◌then◌}
+use Rattle.std.specs.Prelude.{Result, Bool, List, ℕ, length}
+use Rattle.figures.specs.declared.Refusal.{Refusal}
+use Rattle.figures.specs.Refusals.{Outcome, result_says, ◌then◌}
 use Rattle.figures.specs.Refusals.Outcome.{gives}
 use Rattle.rows.specs.Rows.{Row}
 use Rattle.codec.specs.Codec.{rows_of}
 use Rattle.rows.specs.Checks.{table_sized, rows_checked}
-use Rattle.truth.specs.declared.Verdict.{Verdict}
-use Rattle.truth.specs.declared.Verdict.TheVariants as verdict
 use Rattle.signals.specs.Truth.{holds}
 use Rattle.run_checks.specs.RunChecks.{run_checked}
 
 -- what an answer says: true where the formula holds of the run, false where it fails, or the refusal's number and place
-abbrev pub verdict_says : Verdict → Outcome Bool
-verdict_says verdict.Holds = gives true
-verdict_says verdict.Fails = gives false
-verdict_says (verdict.Refused r) = refusal r
+abbrev pub verdict_says : Result Bool Refusal → Outcome Bool
+verdict_says = result_says (λ holds. holds)
 
 -- 8, 10 and 11, and then the verdict
 abbrev pub rows_say : List Row → List ℕ → ℕ → Outcome Bool

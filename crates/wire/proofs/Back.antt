@@ -4,7 +4,7 @@
 use mathlib.Core.Path.{◌≡◌, refl, sym, ◌∙◌, ap}
 use mathlib.Core.Bool.{Bool, true, false, cond}
 use mathlib.Core.List.{List}
-use mathlib.Core.Option.{Option, none, some}
+use Rattle.std.specs.Prelude.{Option, None, Some}
 use Prim.Native.Nat.{ℕ}
 use lib.Dec.{eqb}
 use Rattle.figures.specs.declared.Place.{Place}
@@ -38,7 +38,7 @@ abbrev pub bytes_in : Answer → ℕ
 bytes_in a = a.written.0
 
 abbrev pub witness_in : Answer → Option ℕ
-witness_in a = cond (eqb a.kind.0 kind_covered) (some (bytes_in a)) none
+witness_in a = cond (eqb a.kind.0 kind_covered) (Some (bytes_in a)) None
 
 abbrev pub steps_in : Answer → ℕ
 steps_in a = a.steps.0
@@ -54,8 +54,8 @@ written_back (gives bytes) = refl
 
 pub witness_back : (o : Outcome (Option ℕ)) → read_as witness_in (witness_answer o) ≡ o
 witness_back (refused n p) = ap (refused n) (place_back p)
-witness_back (gives none) = refl
-witness_back (gives (some bytes)) = refl
+witness_back (gives None) = refl
+witness_back (gives (Some bytes)) = refl
 
 pub taken_back : (o : Outcome ℕ) → read_as steps_in (taken_answer o) ≡ o
 taken_back (refused n p) = ap (refused n) (place_back p)

@@ -1,7 +1,7 @@
 -- What an answer is in C: document 01, "Answers by number", as the fields of one struct.
 -- Assumes nothing.
 use Rattle.std.specs.Prelude.{Bool, true, false, ℕ}
-use Rattle.std.proofs.Math.Option.{Option, none, some}
+use Rattle.std.specs.Prelude.{Option, None, Some}
 use Rattle.figures.specs.declared.Place.{Place}
 use Rattle.figures.specs.declared.Place.TheVariants as place
 use Rattle.figures.specs.Refusals.{Outcome, printed_place}
@@ -70,8 +70,8 @@ written_answer (gives bytes) = given_answer kind_written bytes 0
 -- covered with the bytes written; "for an uncovered pair the answer says so and the buffer is unchanged"
 abbrev pub witness_answer : Outcome (Option ℕ) → Answer
 witness_answer (refused n p) = refused_answer n p
-witness_answer (gives none) = given_answer kind_uncovered 0 0
-witness_answer (gives (some bytes)) = given_answer kind_covered bytes 0
+witness_answer (gives None) = given_answer kind_uncovered 0 0
+witness_answer (gives (Some bytes)) = given_answer kind_covered bytes 0
 
 -- "its number of steps in place of bytes"
 abbrev pub taken_answer : Outcome ℕ → Answer

@@ -5,17 +5,12 @@ ghost use Rattle.std.specs.Prelude.{◌≡◌};
 ghost use Rattle.figures.specs.Refusals.{number_of, place_of};
 ghost use Rattle.figures.specs.Outputs.{output_says};
 ghost use Rattle.truth.specs.Answers.{verdict_says};
-ghost use Rattle.trap.specs.Answers.{trap_says};
 ghost use Rattle.cover.specs.Answers.{witness_says};
-ghost use Rattle.cover.specs.Answers as cover;
 ghost use Rattle.recorded.specs.Recorded.{taken_says};
 ghost use Rattle.wire.specs.Wire.{unit_of, refused_answer, given_answer, truth_answer, written_answer, witness_answer, taken_answer};
 
-use cover::Witnessed;
-use figures::{ByteCount, Output, Place, PrintedPlace, Refusal, RefusalNumber, StepCount};
-use recorded::Taken;
-use trap::Trapped;
-use truth::Verdict;
+use figures::{ByteCount, Place, PrintedPlace, Refusal, RefusalNumber, StepCount};
+use logs::LogRefusal;
 
 // Which kind of answer it is. An answer that nobody filled in reads as a refusal, with a number that none has.
 #[repr(C)]
@@ -111,49 +106,48 @@ fn given(kind: u32, written: ByteCount, steps: StepCount) -> Answer
     }
 }
 
-pub fn of_verdict(v: Verdict) -> Answer
-    ensures { result ≡ truth_answer (verdict_says v) }
-{
-    match v {
-        Verdict::Holds => given(AnswerKind::HOLDS, ByteCount(0), StepCount(0)),
-        Verdict::Fails => given(AnswerKind::FAILS, ByteCount(0), StepCount(0)),
-        Verdict::Refused(r) => refused(r),
+impl From<Result<bool, Refusal>> for Answer {
+    ghost from_gives = { λ verdict answer. answer ≡ truth_answer (verdict_says verdict) };
+
+    fn from(verdict: Result<bool, Refusal>) -> Answer {
+        match verdict {
+            Ok(true) => given(AnswerKind::HOLDS, ByteCount(0), StepCount(0)),
+            Ok(false) => given(AnswerKind::FAILS, ByteCount(0), StepCount(0)),
+            Err(r) => refused(r),
+        }
     }
 }
 
-pub fn of_trapped(t: Trapped) -> Answer
-    ensures { result ≡ written_answer (trap_says t) }
-{
-    match t {
-        Trapped::Written(bytes) => given(AnswerKind::WRITTEN, bytes, StepCount(0)),
-        Trapped::Refused(r) => refused(r),
+impl From<Result<ByteCount, Refusal>> for Answer {
+    ghost from_gives = { λ written answer. answer ≡ written_answer (output_says written) };
+
+    fn from(written: Result<ByteCount, Refusal>) -> Answer {
+        match written {
+            Ok(bytes) => given(AnswerKind::WRITTEN, bytes, StepCount(0)),
+            Err(r) => refused(r),
+        }
     }
 }
 
-pub fn of_witnessed(w: Witnessed) -> Answer
-    ensures { result ≡ witness_answer (witness_says w) }
-{
-    match w {
-        Witnessed::Covered(bytes) => given(AnswerKind::COVERED, bytes, StepCount(0)),
-        Witnessed::Uncovered => given(AnswerKind::UNCOVERED, ByteCount(0), StepCount(0)),
-        Witnessed::Refused(r) => refused(r),
+impl From<Result<Option<ByteCount>, Refusal>> for Answer {
+    ghost from_gives = { λ witnessed answer. answer ≡ witness_answer (witness_says witnessed) };
+
+    fn from(witnessed: Result<Option<ByteCount>, Refusal>) -> Answer {
+        match witnessed {
+            Ok(Some(bytes)) => given(AnswerKind::COVERED, bytes, StepCount(0)),
+            Ok(None) => given(AnswerKind::UNCOVERED, ByteCount(0), StepCount(0)),
+            Err(r) => refused(r),
+        }
     }
 }
 
-pub fn of_output(o: Output) -> Answer
-    ensures { result ≡ written_answer (output_says o) }
-{
-    match o {
-        Output::Written(bytes) => given(AnswerKind::WRITTEN, bytes, StepCount(0)),
-        Output::Refused(r) => refused(r),
-    }
-}
+impl From<Result<StepCount, LogRefusal>> for Answer {
+    ghost from_gives = { λ taken answer. answer ≡ taken_answer (taken_says taken) };
 
-pub fn of_taken(t: Taken) -> Answer
-    ensures { result ≡ taken_answer (taken_says t) }
-{
-    match t {
-        Taken::Steps(steps) => given(AnswerKind::TAKEN, ByteCount(0), steps),
-        Taken::Refused(r) => refused_by(r.number(), r.place()),
+    fn from(taken: Result<StepCount, LogRefusal>) -> Answer {
+        match taken {
+            Ok(steps) => given(AnswerKind::TAKEN, ByteCount(0), steps),
+            Err(r) => refused_by(r.number(), r.place()),
+        }
     }
 }

@@ -7,15 +7,7 @@ use lib.ListN.{length}
 use Rattle.layout.specs.Checks.{words_of}
 use Rattle.suite_laws.proofs.Words.{length_words_of}
 use Rattle.blocks.proofs.Stepped.{column_more}
-use Rattle.std.proofs.Common.{rules}
 use Rattle.blocks.proofs.judge.Goals as goal
-
-pub loop-i-init : goal.loop-i-init
-loop-i-init c = (search rules, c.requires.3, λ h. absurd (omega arith))
-
-pub put_lines-requires : goal.put_lines-requires
-put_lines-requires c =
-    (c.requires.0, c.steps_before-count.ensures.2, c.loop-i.invariant.1)
 
 pub loop-i-preserved : goal.loop-i-preserved
 loop-i-preserved c =
@@ -34,19 +26,10 @@ loop-i-preserved c =
           (omega arith) (ap (eqb q.i) (sym many)) read.ensures (λ l. q.invariant.2 (omega arith)) put.ensures.block_true c.first_column-after.ensures,
     )
 
-pub overflow_sub-result : goal.overflow_sub-result
-overflow_sub-result c = c.requires.1
-
-pub bounds-after-rows : goal.bounds-after-rows
-bounds-after-rows c = omega (arith, c.requires.0.few, c.requires.1)
-
-pub returns : goal.returns
-returns c =
+pub returns-clause-by_index : goal.returns-clause-by_index
+returns-clause-by_index c =
     let q = c.loop-i in
     let first : q.i ≡ 0 = omega arith in
     let many = length_words_of c.args.run.now in
     let last = length c.args.rows.now - 1 in
-    record {
-      by_index = λ k l. rw first at (q.invariant.2 (omega (arith, c.requires.2)) last (omega (arith, c.requires.1)) k l);
-      lines_len = q.invariant.1;
-    }
+    λ k l. rw first at (q.invariant.2 (omega (arith, c.requires.2)) last (omega (arith, c.requires.1)) k l)

@@ -2,10 +2,10 @@
 use native.Mathlib.Omega.{arith}
 use mathlib.Core.Bool.{true}
 use mathlib.Core.List.{◌++◌}
-use mathlib.Core.Path.{◌≡◌, refl, ◌∙◌, ap}
-use Prim.Native.Nat.{◌+◌, ◌*◌, ◌-◌, ◌/◌}
+use mathlib.Core.Path.{◌≡◌, ◌∙◌, ap}
+use Prim.Native.Nat.{◌+◌, ◌*◌, ◌/◌}
 use borrow.Author.Tests.{le-leb, lt-leb}
-use lib.ListN.{length, drop, length-take, length-drop}
+use lib.ListN.{length, drop}
 use lib.Seq.{take-length}
 use Rattle.lengths.specs.Lengths.{row_bytes}
 use Rattle.codec.specs.Codec.{bytes_of, fits, encode_of, encoded}
@@ -15,27 +15,16 @@ use Rattle.codec.proofs.encode.Goals as goal
 pub returns-then-out-rows : goal.returns-then-out-rows
 unfolding encode_of encoded
 returns-then-out-rows c =
-    let a = c.args in
-    record {
-      result_value = simp (lt-leb _ _ c.if-out-rows.true);
-      out_after = simp (lt-leb _ _ c.if-out-rows.true);
-    }
-
-pub loop-r-init : goal.loop-r-init
-loop-r-init c = (omega arith, omega arith, refl, refl)
-
-pub put_row-requires : goal.put_row-requires
-put_row-requires c =
-    let q = c.loop-r in
-    omega (arith, length-take (length q.out - 3 * q.r) (drop (3 * q.r) q.out), length-drop (3 * q.r) q.out)
+    let short = lt-leb _ _ c.if-out-rows.true in
+    record { result_value = simp short; out_after = simp short }
 
 pub loop-r-preserved : goal.loop-r-preserved
 loop-r-preserved c =
     let q = c.loop-r in
     let a = c.args in
-    let more = write_more a.rows.now a.out.now q.invariant.0 q.r q.out _ (omega arith) q.invariant.3 c.put_row.ensures in
+    let more = write_more a.rows.now a.out.now q.invariant.0 q.r q.out _ (omega arith) q.invariant.2 c.put_row.ensures in
     let size = length_written a.rows.now a.out.now q.invariant.0 (q.r + 1) (omega arith) in
-    (q.invariant.0, omega arith, ap length more ∙ size, more)
+    (q.invariant.0, ap length more ∙ size, more)
 
 pub returns : goal.returns
 unfolding encode_of encoded
@@ -45,6 +34,6 @@ returns c =
     let out = c.args.out.now in
     let all : q.r ≡ length rows = omega arith in
     let room : fits rows (length out) ≡ true = le-leb (length rows) (length out / row_bytes) (omega arith) in record {
-      result_value = simp (room, all);
-      out_after = simp room (q.invariant.3 ∙ ap (written rows out) all ∙ ap (λ l. bytes_of l ++ drop (3 * length rows) out) (take-length rows));
+      result_value = simp room;
+      out_after = simp room (q.invariant.2 ∙ ap (written rows out) all ∙ ap (λ l. bytes_of l ++ drop (3 * length rows) out) (take-length rows));
     }

@@ -6,17 +6,7 @@ use native.Mathlib.Numerals.{add-one}
 use lib.ListN.{length}
 use Rattle.signal_laws.proofs.Columns.{Right, one_step, read_there}
 use Rattle.signals.specs.Column.{own_by, reading_of}
-use Rattle.std.proofs.Common.{rules}
 use Rattle.columns.proofs.judge.Goals as goal
-
-pub loop-i-init : goal.loop-i-init
-loop-i-init c = (search rules, search rules, refl, λ h. absurd (omega arith))
-
-pub column-requires : goal.column-requires
-column-requires c = record {
-  fit = c.requires.0;
-  here_len = c.loop-i.invariant.2;
-}
 
 pub loop-i-preserved : goal.loop-i-preserved
 loop-i-preserved c =
@@ -27,25 +17,11 @@ loop-i-preserved c =
     let reading = reading_of rows run a.flip a.sequence.now in
     let i = q.i - 1 in
     let e : suc i ≡ q.i = omega arith in (
-      omega arith,
       refl,
       c.column.ensures.here_len_2,
       λ h.
           one_step rows c.requires.0 reading (length run) i h c.column.new.here q.after (own_by rows c.reads_at-reads.result)
           (λ r. ap (λ what. own_by rows what r) c.reads_at-reads.ensures ∙ read_there rows run a.flip a.sequence.now i r)
           (rw (add-one i) at c.column.ensures.cells)
-          (λ l. subst (λ (k : ℕ). Right rows reading (length run) k q.after) (sym e) (q.invariant.3 (omega arith))),
+          (λ l. subst (λ (k : ℕ). Right rows reading (length run) k q.after) (sym e) (q.invariant.2 (omega arith))),
     )
-
-pub overflow_sub-result : goal.overflow_sub-result
-overflow_sub-result c = c.requires.1
-
-pub bounds-after-rows : goal.bounds-after-rows
-bounds-after-rows c = omega (arith, c.requires.0.few, c.requires.1)
-
-pub returns : goal.returns
-returns c =
-    let q = c.loop-i in
-    let p = c.requires in
-    let first : q.i ≡ 0 = omega arith in
-    rw first at (q.invariant.3 (omega (arith, p.2)) (length c.args.rows.now - 1) (omega (arith, p.1)))

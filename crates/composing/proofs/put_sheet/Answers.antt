@@ -2,23 +2,27 @@
 use native.Mathlib.Omega.{arith}
 use mathlib.Core.Path.{◌≡◌, ◌∙◌, ap, ap₂}
 use mathlib.Core.Bool.{Bool}
-use mathlib.Core.List.{List, ◌++◌}
-use Prim.Native.Nat.{ℕ, ◌*◌}
+use mathlib.Core.List.{List, ◌++◌, append_assoc}
+use Prim.Native.Nat.{ℕ, ◌≤◌}
 use lib.ListN.{length}
-use Rattle.lines.specs.Lines.{Put}
 use Rattle.lines.specs.Texts.{in_order}
 use Rattle.bench.specs.Coverage.{Bench, size, sum, occurrence_count, mattered_count, all_occurrences}
 use Rattle.bench.specs.Files.{bench_of}
 use Rattle.bench.specs.Sheet.{suite_line, block_of, answer_of, cond_line, total_line, sheet_text}
 use Rattle.bench.specs.Tables.{noted, SuiteNoted}
 use Rattle.bench.proofs.Alike.{order_same}
-use Rattle.lines.proofs.Written.{Text, then_text, same_text, from_start}
 use Rattle.composing.proofs.Noted.{noted_answer, counted, answered}
 use Rattle.composing.proofs.put_sheet.Goals as goal
 
 -- a condition's line by the notes
 abbrev noted-line : Bench → List Bool → ℕ → List ℕ
 noted-line b notes c = cond_line c (noted_answer b notes c b.requirements)
+
+-- four texts put one after the other are their texts together
+regroup :
+    (line block cond total before : List ℕ) {lined blocked answered after : List ℕ} → lined ≡ before ++ line →
+    blocked ≡ lined ++ block → answered ≡ blocked ++ cond → after ≡ answered ++ total → after ≡ before ++ (line ++ (block ++ (cond ++ total)))
+regroup line block cond total before e f g h = rw (h, g, f, e) (simp append_assoc)
 
 -- the parts, by counts that are the bench's and notes that are right, are the sheet
 module _
@@ -48,44 +52,45 @@ module _
       (ap₂ ◌++◌ (ap (λ (n : ℕ). in_order n (block_of b)) requirements-are) (ap₂ ◌++◌ conds-are totals-are))
 
   whole :
-      {before mid mid' mid'' after : List ℕ} {at at' at'' end : ℕ} → Text 12 before 0 (suite_line requirements runs) mid at →
-      Text (26646 * requirements) mid at (in_order requirements (block_of b)) mid' at' →
-      Text (15 * conditions) mid' at' (in_order conditions (noted-line b notes)) mid'' at'' → Text 14 mid'' at'' (total_line mattered all) after end →
-      (end ≡ length (sheet_text b)) × Put before 0 (sheet_text b) after
-  whole head blocks conds total =
-      from_start _
-      (same_text _ parts_are
-      (then_text 12 _ head (then_text (26646 * requirements) _ blocks (then_text (15 * conditions) 14 conds total))))
+      (before : List ℕ) {lined blocked answered after : List ℕ} → lined ≡ before ++ suite_line requirements runs →
+      blocked ≡ lined ++ in_order requirements (block_of b) → answered ≡ blocked ++ in_order conditions (noted-line b notes) →
+      after ≡ answered ++ total_line mattered all → after ≡ before ++ sheet_text b
+  whole before head blocks conds total =
+      regroup _ _ _ _ before head blocks conds total ∙ ap (λ (t : List ℕ). before ++ t) parts_are
 
-pub all_occurrences-all-requires : goal.all_occurrences-all-requires
-all_occurrences-all-requires c =
-    (c.requires.0, c.requires.3)
+pub put_blocks-requires : goal.put_blocks-requires
+put_blocks-requires g c =
+    let fits = c.well_formed in
+    let requirements = c.args.requirements in
+    let few : requirements.many.0 ≤ 16 = omega (arith, requirements.counted, requirements.ready.few_requirements) in
+    (omega arith, omega (arith, c.put_suite_line.ensures.ends))
+
+pub put_conds-requires : goal.put_conds-requires
+put_conds-requires g c =
+    let fits = c.well_formed in
+    let requirements = c.args.requirements in
+    let few : requirements.many.0 ≤ 16 = omega (arith, requirements.counted, requirements.ready.few_requirements) in
+    let few_conditions : requirements.conditions.0 ≤ 32 = omega (arith, requirements.conditions_counted, requirements.ready.few_conditions) in
+    (omega arith, omega (arith, c.put_suite_line.ensures.ends, c.put_blocks.ensures.ends))
 
 pub put_total_line-requires : goal.put_total_line-requires
-put_total_line-requires c =
-    let pre = c.requires in (
-      omega (arith, c.all_noted-some.ensures.1),
-      omega (arith, c.all_occurrences-all.ensures.1),
-      omega (
-        arith,
-        pre.0.few_conditions,
-        pre.0.few_requirements,
-        pre.2,
-        pre.3,
-        pre.5,
-        c.put_conds-conds.ensures.result_value.1,
-        c.put_conds-conds.ensures.put.same_length,
-        c.put_blocks-blocks.ensures.result_value.1,
-        c.put_blocks-blocks.ensures.put.same_length,
-        c.put_suite_line-head.ensures.result_value.1,
-        c.put_suite_line-head.ensures.put.same_length,
+put_total_line-requires g c =
+    let fits = c.well_formed in
+    let requirements = c.args.requirements in
+    let few : requirements.many.0 ≤ 16 = omega (arith, requirements.counted, requirements.ready.few_requirements) in
+    let few_conditions : requirements.conditions.0 ≤ 32 = omega (arith, requirements.conditions_counted, requirements.ready.few_conditions) in (
+      omega arith,
+      (
+        omega (arith, c.all_noted-some.ensures.1),
+        omega (arith, c.all_occurrences-all.ensures.1),
+        omega (arith, c.put_suite_line.ensures.ends, c.put_blocks.ensures.ends, c.put_conds.ensures.ends),
       ),
     )
 
 pub returns : goal.returns
-returns c =
-    let pre = c.requires in
-    let both = whole (bench_of c.args.ours.now c.args.theirs.now) c.put_blocks-blocks.new.notes c.put_blocks-blocks.ensures.suite_noted pre.3 pre.4 pre.2
-    c.all_noted-some.ensures.0 c.all_occurrences-all.ensures.0 (c.put_suite_line-head.ensures.result_value, c.put_suite_line-head.ensures.put) (c.put_blocks-blocks.ensures.result_value, c.put_blocks-blocks.ensures.put) (c.put_conds-conds.ensures.result_value, c.put_conds-conds.ensures.put)
-    (c.put_total_line.ensures.result_value, c.put_total_line.ensures.put) in
-    record { result_value = both.0; put = both.1 }
+returns g c =
+    let requirements = c.args.requirements in
+    let runs = c.args.runs in
+    whole (bench_of requirements.file.now runs.file.now) c.put_blocks.new.notes.cells c.put_blocks.ensures.suite_noted requirements.counted runs.counted
+    requirements.conditions_counted c.all_noted-some.ensures.0 c.all_occurrences-all.ensures.0 c.args.page.now.text.items
+    c.put_suite_line.ensures.puts c.put_blocks.ensures.puts c.put_conds.ensures.puts c.put_total_line.ensures.puts

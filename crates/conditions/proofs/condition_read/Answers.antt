@@ -1,13 +1,25 @@
--- `conditions::condition_read` meets its contract: what is found is whether one of the requirements passed reads the condition.
+-- `conditions::condition_read` meets its contract: the chain finds whether one of the requirements reads the condition.
 use native.Mathlib.Omega.{arith}
-use Rattle.bench.proofs.Loops.{found_none, found_more, found_all}
+use mathlib.Core.Path.{◌≡◌, refl, ◌∙◌}
+use mathlib.Core.Bool.{Bool}
+use Prim.Native.Nat.{ℕ, ◌-◌}
+use lib.ListN.{length}
+use Rattle.std.proofs.Common.{rules, tests}
+use Rattle.std.proofs.lemmas.Iterator.{YieldsList-from_range}
+use Rattle.std.proofs.lemmas.Iterator.Search.{any_from_yields_List}
+use Rattle.layout.specs.Layout.{form1}
+use Rattle.layout.specs.Checks.{requirement_rows_in}
+use Rattle.signals.specs.Signals.{some}
+use Rattle.bench.specs.Coverage.{reads_condition}
+use Rattle.bench.specs.Files.{bench_of}
+use Rattle.bench.proofs.Any.{any_below}
 use Rattle.conditions.proofs.condition_read.Goals as goal
 
-pub loop-q-init : goal.loop-q-init
-loop-q-init c = found_none
-
-pub loop-q-preserved : goal.loop-q-preserved
-loop-q-preserved c = found_more c.loop-q.invariant (omega arith) c.read_in-found.ensures
-
 pub returns : goal.returns
-returns c = found_all c.loop-q.invariant (omega arith)
+returns c =
+    let file = c.args.requirements.file.now in
+    let f : ℕ → Bool = λ q. some (length (requirement_rows_in form1 file q)) 0 (reads_condition (bench_of file file) c.args.c.0 q) in
+    let many = c.args.requirements.many.0 in
+    let all : many - 0 ≡ many = omega arith in
+    any_from_yields_List f _ _ c.any.result c.any.ensures.ran (YieldsList-from_range 0 many many refl all) (λ x b q k. search (rules, tests))
+    ∙ any_below many f

@@ -1,5 +1,4 @@
 -- `counting::all_occurrences` meets its contract: the total is that of the occurrences of the requirements passed.
-use Prim.Native.Nat.{◌-◌}
 use lib.ListN.{length}
 use Rattle.rows.specs.Checks.{occurrences}
 use Rattle.lengths.specs.Lengths.{most_requirement_rows}
@@ -9,7 +8,6 @@ use Rattle.bench.proofs.Loops.{Summed}
 use Rattle.counting.proofs.all_occurrences.Given as goal
 
 abbrev pub invariant-loop-q : goal.invariant-loop-q
-invariant-loop-q l = Summed (λ k. length (occurrences (requirement_rows_in form1 l.file k))) most_requirement_rows l.many l.q l.total
-
-abbrev pub decreases-loop-q : goal.decreases-loop-q
-decreases-loop-q l = l.many - l.q
+invariant-loop-q l =
+    let ours = l.requirements in
+    Summed (λ k. length (occurrences (requirement_rows_in form1 ours.file.now k))) most_requirement_rows ours.many.0 l.q l.total

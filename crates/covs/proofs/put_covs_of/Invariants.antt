@@ -1,10 +1,11 @@
 -- `covs::put_covs_of` meets its contract: the lines of the runs passed stand in order.
 use mathlib.Core.Bool.{Bool, cond}
 use mathlib.Core.List.{List, []}
-use Prim.Native.Nat.{ℕ, ◌-◌}
+use Prim.Native.Nat.{ℕ}
+use Rattle.bench.specs.Longest.{cov_line_most}
 use Rattle.bench.specs.Sheet.{cov_line}
 use Rattle.bench.specs.Tables.{marked}
-use Rattle.lines.proofs.InOrder.{Passed}
+use Rattle.lines.proofs.InOrder.{InTurn}
 use Rattle.covs.proofs.put_covs_of.Given as goal
 
 -- what a run's pair says
@@ -12,7 +13,4 @@ abbrev pub said : List Bool → ℕ → ℕ → ℕ → ℕ → List ℕ
 said marks q o p j = cond (marked marks p j) (cov_line q o j) []
 
 abbrev pub invariant-loop-j : goal.invariant-loop-j
-invariant-loop-j l = Passed (said l.marks l.q.0 l.o.0 l.p.0) 13 l.many l.initial.out l.initial.end l.out l.end l.j
-
-abbrev pub decreases-loop-j : goal.decreases-loop-j
-decreases-loop-j l = l.many - l.j
+invariant-loop-j g l = InTurn (said l.marks.cells l.q.0 l.o.0 l.p.0) cov_line_most l.initial.page.text.items l.j l.page.text.items

@@ -5,5 +5,7 @@ use Rattle.file_rows.proofs.row_count.Goals as goal
 
 pub returns : goal.returns
 returns c =
+    let asked = c.args.requirements in
     let many = rows_of_lem c.requirement_bytes-body.ensures in
-    (many, omega (arith, many, (c.requires.0.rows c.args.q.0 c.requires.1).few_rows))
+    let there = rw asked.counted at c.requires in
+    (many, omega (arith, many, (asked.ready.rows c.args.q.0 there).few_rows))

@@ -5,6 +5,7 @@ use mathlib.Core.List.{List}
 use Prim.Native.Nat.{ℕ}
 use borrow.Author.Tests.{not-true, not-false}
 use lib.ListN.{length, replicate}
+use Rattle.std.proofs.lemmas.List.{take-replicate}
 use Rattle.lengths.specs.Lengths.{most_steps}
 use Rattle.rows.specs.Rows.{Row}
 use Rattle.signals.specs.Truth.{reads_of, flip, verdict_of, holds, sequence_of}
@@ -12,7 +13,6 @@ use Rattle.coverage.specs.Coverage.{covered}
 use Rattle.flips.specs.Pair.{Pair}
 use Rattle.coverage.specs.Coverage.{witness_bytes}
 use Rattle.flips.proofs.Decide.{covered_by_bytes}
-use Rattle.flips.proofs.Filled.{take_replicate}
 use Rattle.flips.proofs.covers.Goals as goal
 
 module _ {rows : List Row} {run : List ℕ} {p : ℕ} (pair : Pair rows run p) where
@@ -44,5 +44,5 @@ returns c =
     let n = length c.args.run.now in
     let judge = c.judge in
     held c.requires _ judge.ensures (not-false judge.result (ap not c.if-not-judge.false))
-    (take_replicate _ most_steps n c.requires.few_steps ∙ ap (replicate n) c.witness_byte-sequence.ensures)
+    (take-replicate n most_steps _ c.requires.few_steps ∙ ap (replicate n) c.witness_byte-sequence.ensures)
     c.judge-2.ensures

@@ -1,7 +1,7 @@
 -- `listing::list_from` meets its contract: the rows decoded from the requirement's body are listed, where there is such a requirement.
 use borrow.Author.Tests.{lt-ltb, le-ltb}
 use native.Mathlib.Omega.{arith}
-use mathlib.Core.Path.{◌≡◌, refl, sym, ap, subst}
+use mathlib.Core.Path.{◌≡◌, refl, sym, ◌∙◌, ap, subst}
 use mathlib.Core.Bool.{Bool, cond}
 use mathlib.Core.List.{List}
 use Prim.Native.Nat.{ℕ, ◌≤◌, ◌<◌}
@@ -11,7 +11,7 @@ use Rattle.figures.specs.Refusals.{Outcome, refusal}
 use Rattle.rows.specs.Rows.{Row}
 use Rattle.layout.specs.Layout.{form1, requirements_in, runs_in}
 use Rattle.layout.specs.Checks.{requirement_rows_in, run_words_in}
-use Rattle.bench.proofs.Decoded.{rows_inside, lent_length, lent, lent_ready}
+use Rattle.bench.proofs.Decoded.{decoded, decoded_ready}
 use Rattle.listing.specs.Answers.{pairs_of, rows_listed, list_from}
 use Rattle.laws.proofs.Lent.{Answered, along, answered}
 use Rattle.listing.proofs.list_from.Goals as goal
@@ -33,9 +33,6 @@ module _ (ours theirs : List ℕ) (q : ℕ) (out : List ℕ) where
   from-number there =
       cond there (rows_listed (requirement_rows_in form1 ours q) (runs_in theirs) (run_words_in form1 theirs) (length out)) (refusal NoSuch)
 
-  no_such : requirements_in ours ≤ q → Says (refusal NoSuch) out
-  no_such l = answered bytes out (ap from-number (sym (le-ltb q (requirements_in ours) l))) refl
-
   by_rows :
       {rows : List Row} {runs : ℕ} {o : Outcome ℕ} {after : List ℕ} → q < requirements_in ours → rows ≡ requirement_rows_in form1 ours q →
       runs ≡ runs_in theirs → Listed rows runs o after → Says o after
@@ -43,30 +40,17 @@ module _ (ours theirs : List ℕ) (q : ℕ) (out : List ℕ) where
       along bytes out (ap from-number (sym (lt-ltb q (requirements_in ours) l)))
       (subst (λ n. Listed (requirement_rows_in form1 ours q) n o after) runs-are (subst (λ r. Listed r runs o after) rows_are h))
 
-pub returns-then-requirements-q : goal.returns-then-requirements-q
-returns-then-requirements-q c =
-    let both = no_such c.args.ours.now c.args.theirs.now c.args.q.0 c.args.out.now (omega arith) in
-    record { result_value = both.0; out_after = both.1 }
-
-pub slice_bounds-rows-end : goal.slice_bounds-rows-end
-slice_bounds-rows-end c =
-    let pre = c.requires in
-    rows_inside pre.0 (omega arith) c.requirement_bytes-body.ensures c.decode-rows.ensures
-
-pub slice_bounds-list_rows-end : goal.slice_bounds-list_rows-end
-slice_bounds-list_rows-end c =
-    let pre = c.requires in
-    lent_length pre.0 (omega arith) c.requirement_bytes-body.ensures c.decode-rows.ensures
-
 pub list_rows-requires : goal.list_rows-requires
 list_rows-requires c =
-    let pre = c.requires in
-    (lent_ready pre.0 (omega arith) c.requirement_bytes-body.ensures c.decode-rows.ensures, pre.1, pre.3)
+    let requirements = c.args.requirements in
+    rw c.deref.ensures.0 (decoded_ready requirements.ready (omega (arith, requirements.counted)) c.requirement_bytes.ensures c.decode-rows.ensures)
 
 pub returns : goal.returns
 returns c =
-    let there : c.args.q.0 < requirements_in c.args.ours.now = omega arith in
-    let both = by_rows c.args.ours.now c.args.theirs.now c.args.q.0 c.args.out.now there
-    (lent c.requires.0 there c.requirement_bytes-body.ensures c.decode-rows.ensures) c.requires.3
+    let requirements = c.args.requirements in
+    let runs = c.args.runs in
+    let there : c.args.q.0 < requirements_in requirements.file.now = omega (arith, requirements.counted) in
+    let both = by_rows requirements.file.now runs.file.now c.args.q.0 c.args.out.now there
+    (c.deref.ensures.0 ∙ decoded requirements.ready there c.requirement_bytes.ensures c.decode-rows.ensures) runs.counted
     (c.list_rows.ensures.result_value, c.list_rows.ensures.out_after) in
     record { result_value = both.0; out_after = both.1 }

@@ -4,6 +4,7 @@ use mathlib.Core.List.{List}
 use Prim.Native.Nat.{ℕ, ◌%◌}
 use borrow.Author.Tests.{eq-eqb, ne_eqb}
 use lib.ListN.{length}
+use Rattle.std.proofs.lemmas.Result.{err_from_is_err_and}
 use Rattle.lengths.specs.Lengths.{run_of, run_says}
 use Rattle.figures.specs.Refusals.{Outcome, ◌then◌}
 use Rattle.figures.specs.Refusals.Outcome.{gives}
@@ -27,17 +28,19 @@ returns-then-log-ne0 c = rw (ne_eqb (length c.args.log.now % count_bytes) 0 c.if
 
 pub check_turns-requires : goal.check_turns-requires
 check_turns-requires c =
-    ((run_passes _).0 (_, sym (said run_says (λ o. o) c.new.ensures c.in-Made.is))).1
+    ((run_passes _).0 (_, sym (said run_says (λ o. o) c.new.ensures c.in_ok-run.was))).1
 
-pub returns-in-Refused : goal.returns-in-Refused
-returns-in-Refused c =
+pub returns-in_err-run : goal.returns-in_err-run
+returns-in_err-run c =
     let log = c.args.log.now in
-    said run_says (sized log) c.new.ensures c.in-Refused.is
-    ∙ sym (even log c.if-log-ne0.false)
+    let p = err_from_is_err_and c.from_residual.result c.from_residual.ensures.1 in
+    rw (p.1, p.2)
+    (said run_says (sized log) c.new.ensures c.in_err-run.was
+    ∙ sym (even log c.if-log-ne0.false))
 
-pub returns-in-Made : goal.returns-in-Made
-returns-in-Made c =
+pub returns : goal.returns
+returns c =
     let log = c.args.log.now in
     c.check_turns.ensures
-    ∙ said run_says (sized log) c.new.ensures c.in-Made.is
+    ∙ said run_says (sized log) c.new.ensures c.in_ok-run.was
     ∙ sym (even log c.if-log-ne0.false)

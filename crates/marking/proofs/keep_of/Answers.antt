@@ -6,16 +6,13 @@ use mathlib.Core.List.{List}
 use Prim.Native.Nat.{ℕ, ◌<◌}
 use lib.Bits.{bit_or}
 use lib.Dec.{eqb}
-use lib.ListN.{length-set}
-use Rattle.figures.specs.Numbers.{below}
-use Rattle.laws.proofs.Below.{length_more}
 use Rattle.rows.specs.Rows.{Row}
 use Rattle.rows.specs.Checks.{condition_at}
-use Rattle.rows.proofs.Named.{one_of}
 use Rattle.lanes.specs.Lanes.{lane_count, lane}
 use Rattle.lanes.proofs.Bitwise.{lane_or}
 use Rattle.blocks.proofs.Stored.{stored_more}
 use Rattle.marking.specs.Flipped.{number_in}
+use Rattle.marking.proofs.Numbered.{size_with}
 use Rattle.std.proofs.Common.{rules}
 use Rattle.marking.proofs.keep_of.Goals as goal
 
@@ -33,27 +30,18 @@ kept x y k {is = is} {number = number} p q e f =
     both true b = refl
     both false b = refl
 
-pub loop-r-init : goal.loop-r-init
-unfolding below
-loop-r-init c = (search rules, refl, search rules, refl, λ r l. absurd (omega arith))
-
 pub loop-r-preserved : goal.loop-r-preserved
 loop-r-preserved c =
     let q = c.loop-r in
     let rows = c.args.rows.now in
-    let reads = c.is_condition-reads in
+    let reads = c.is_condition_row-reads in
     let all = c.in_all in
     let but = c.all_but in
     let v = bit_or all.result but.result in
-    let more = length_more (condition_at rows) q.r in
-    let here = one_of reads.ensures in (
-      omega arith,
-      omega (arith, c.one_if-o.ensures.0, more, here),
-      omega (arith, c.one_if-o.ensures.1),
-      length-set q.keep q.r v ∙ q.invariant.3,
-      stored_more (Kept rows) q.keep q.r v (omega arith) q.invariant.4
-          (λ k l. kept all.result but.result k (all.ensures k l) (but.ensures k l) reads.ensures q.invariant.1),
+    let more = size_with q.r (condition_at rows) reads.ensures in (
+      omega (arith, more),
+      search (rules, q.invariant.1),
+      search rules,
+      stored_more (Kept rows) q.keep q.r v (omega arith) q.invariant.3
+          (λ k l. kept all.result but.result k (all.ensures k l) (but.ensures k l) reads.ensures q.invariant.0),
     )
-
-pub returns : goal.returns
-returns c = λ r l. c.loop-r.invariant.4 r (omega arith)

@@ -2,8 +2,7 @@
 use mathlib.Core.Path.{◌≡◌}
 use mathlib.Core.Bool.{Bool}
 use mathlib.Core.List.{List}
-use Prim.Native.Nat.{ℕ, ◌-◌, ◌≤◌, ◌<◌}
-use lib.ListN.{length}
+use Prim.Native.Nat.{ℕ, ◌≤◌, ◌<◌}
 use Rattle.limits.specs.Limits.{most_runs}
 use Rattle.layout.specs.Checks.{words_of}
 use Rattle.bench.specs.Tables.{marked, mark_of}
@@ -19,8 +18,5 @@ Others j before after = (k i : ℕ) → i < most_runs → (i ≡ j → ⊥) → 
 
 abbrev pub invariant-loop-p : goal.invariant-loop-p
 invariant-loop-p l =
-    (l.p ≤ length l.rows) × (l.o ≡ number_in l.rows l.p) × (l.o ≤ l.p) × (length l.marks ≡ 2048) × Here (mark_of l.rows (words_of l.run)) l.column l.marks l.p
-    × Others l.column l.initial.marks l.marks
-
-abbrev pub decreases-loop-p : goal.decreases-loop-p
-decreases-loop-p l = length l.rows - l.p
+    (l.o ≡ number_in l.rows l.p) × (l.o ≤ l.p) × Here (mark_of l.rows (words_of l.run)) l.j.0 l.marks.cells l.p
+    × Others l.j.0 l.initial.marks.cells l.marks.cells

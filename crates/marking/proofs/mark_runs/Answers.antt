@@ -1,22 +1,18 @@
 -- `marking::mark_runs` meets its contract: the marks of the runs passed are right, and the count is that of those that the requirement holds of.
 use native.Mathlib.Omega.{arith}
-use mathlib.Core.Path.{◌≡◌, refl, sym, ◌∙◌, ap, subst}
+use mathlib.Core.Path.{◌≡◌, sym, ◌∙◌, ap, subst}
 use mathlib.Core.Bool.{Bool}
 use mathlib.Core.List.{List}
 use Prim.Native.Nat.{ℕ, ◌+◌, ◌<◌}
 use native.Mathlib.Decide.{ℕ_discrete}
-use Rattle.figures.specs.Numbers.{below}
 use Rattle.limits.specs.Limits.{most_runs}
-use Rattle.laws.proofs.Below.{length_more}
 use Rattle.rows.specs.Rows.{Row}
-use Rattle.rows.proofs.Named.{one_of}
 use Rattle.signals.specs.Truth.{holds}
 use Rattle.layout.specs.Layout.{form1}
 use Rattle.layout.specs.Checks.{words_of, run_words_in}
-use Rattle.bench.specs.Coverage.{size}
-use Rattle.bench.specs.Files.{RunReady}
 use Rattle.bench.specs.Tables.{marked, mark_of, Marked, ColumnMarked}
 use Rattle.marking.proofs.mark_runs.Invariants.{held}
+use Rattle.marking.proofs.Numbered.{size_with}
 use Rattle.std.proofs.Common.{rules}
 use Rattle.marking.proofs.mark_runs.Goals as goal
 
@@ -36,46 +32,17 @@ same-run :
     ColumnMarked rows run j before after
 same-run {rows} {j = j} {before} {after} = subst (λ words. ColumnMarked rows words j before after)
 
-pub loop-j-init : goal.loop-j-init
-unfolding below
-loop-j-init c = (search rules, refl, search rules, c.requires.3, λ p j lp lj. absurd (omega arith), refl)
-
-pub mark_run-requires : goal.mark_run-requires
-mark_run-requires c =
-    let q = c.loop-j in
-    let pre = c.requires in
-    let few = pre.1.few_runs in (
-      pre.0,
-      record { keeps = c.keep_of-keep.ensures; witnesses = c.flips_of-flips.ensures },
-      subst RunReady (sym (ap words_of c.run_bytes-run.ensures)) (pre.1.run q.j (omega arith)),
-      omega arith,
-      q.invariant.3,
-      q.invariant.5,
-    )
-
 pub loop-j-preserved : goal.loop-j-preserved
 loop-j-preserved c =
     let q = c.loop-j in
-    let file = c.args.file.now in
+    let file = c.args.runs.file.now in
     let rows = c.args.rows.now in
-    let few = c.requires.1.few_runs in
     let run = ap words_of c.run_bytes-run.ensures in
-    let marked = c.mark_run in
-    let more = length_more (held file rows) q.j in
-    let here = one_of (marked.ensures.value ∙ ap (holds rows) run) in
+    let marked = c.mark_run-held in
+    let more = size_with q.j (held file rows) (marked.ensures.value ∙ ap (holds rows) run) in
     let column = same-run run marked.ensures.column_marked in (
-      omega arith,
-      omega (arith, c.one_if-count.ensures.0, more, here),
-      omega (arith, c.one_if-count.ensures.1),
-      column.same_length ∙ q.invariant.3,
-      marked_more rows (run_words_in form1 file) (omega arith) q.invariant.4 column,
+      omega (arith, more),
+      search (rules, q.invariant.1),
+      marked_more rows (run_words_in form1 file) (omega (arith, c.args.runs.ready.few_runs)) q.invariant.2 column,
       marked.ensures.lines_len,
     )
-
-pub returns : goal.returns
-returns c =
-    let q = c.loop-j in
-    let e : q.j ≡ c.args.runs.0 = omega arith in record {
-      result_value = (q.invariant.1 ∙ ap (λ m. size m (held c.args.file.now c.args.rows.now)) e, omega arith);
-      marks_len = (q.invariant.3, λ p j lp lj. q.invariant.4 p j lp (omega arith));
-    }

@@ -2,7 +2,7 @@
 use mathlib.Core.Path.{◌≡◌}
 use mathlib.Core.Bool.{Bool}
 use mathlib.Core.List.{List}
-use Prim.Native.Nat.{ℕ, ◌-◌, ◌≤◌}
+use Prim.Native.Nat.{ℕ, ◌≤◌}
 use lib.ListN.{length}
 use Rattle.rows.specs.Rows.{Row}
 use Rattle.signals.specs.Truth.{holds}
@@ -19,8 +19,5 @@ held file rows j = holds rows (run_words_in form1 file j)
 
 abbrev pub invariant-loop-j : goal.invariant-loop-j
 invariant-loop-j l =
-    (l.j ≤ l.many) × (l.count ≡ size l.j (held l.file l.rows)) × (l.count ≤ l.j) × (length l.marks ≡ 2048) × Marked l.rows (run_words_in form1 l.file) l.j l.marks
+    (l.count ≡ size l.j (held l.runs.file.now l.rows)) × (l.count ≤ l.j) × Marked l.rows (run_words_in form1 l.runs.file.now) l.j l.marks.cells
     × (length l.lines ≡ block_words)
-
-abbrev pub decreases-loop-j : goal.decreases-loop-j
-decreases-loop-j l = l.many - l.j

@@ -1,14 +1,21 @@
--- `noting::any_mark` meets its contract: what is found is whether one of the marks passed is set.
+-- `noting::any_mark` meets its contract: the marks of row p stand together, and what `any` finds there is whether some run's is set.
 use native.Mathlib.Omega.{arith}
-use mathlib.Core.Path.{refl}
-use Rattle.bench.proofs.Loops.{found_none, found_more, found_all}
+use mathlib.Core.Path.{◌≡◌, ◌∙◌}
+use Prim.Native.Nat.{◌+◌, ◌-◌, ◌*◌}
+use lib.ListN.{take, drop}
+use Rattle.std.proofs.Common.{rules, tests}
+use Rattle.std.proofs.lemmas.Iterator.{YieldsList-from_slice}
+use Rattle.std.proofs.lemmas.Iterator.Search.{any_from_yields_List}
+use Rattle.limits.specs.Limits.{most_runs}
+use Rattle.bench.proofs.Any.{any_part}
 use Rattle.noting.proofs.any_mark.Goals as goal
 
-pub loop-j-init : goal.loop-j-init
-loop-j-init c = found_none
-
-pub loop-j-preserved : goal.loop-j-preserved
-loop-j-preserved c = found_more c.loop-j.invariant (omega arith) refl
-
 pub returns : goal.returns
-returns c = found_all c.loop-j.invariant (omega arith)
+returns c =
+    let marks = c.args.marks.now.cells in
+    let row = most_runs * c.args.p.0 in
+    let runs = c.args.runs.0 in
+    let many : row + runs - row ≡ runs = omega arith in
+    let part = rw many at c.iter.ensures.rest in
+    any_from_yields_List (λ b. b) _ _ c.any.result c.any.ensures.ran (YieldsList-from_slice (take runs (drop row marks)) part) (λ x b q k. search (rules, tests))
+    ∙ any_part marks row runs (omega arith)

@@ -1,69 +1,54 @@
 -- `pairs::list_pairs` meets its contract: the pairs passed stand in order, by occurrence and then by run.
 use native.Mathlib.Omega.{arith}
-use mathlib.Core.Bool.{Bool, cond}
-use mathlib.Core.List.{List, []}
-use mathlib.Core.Path.{◌≡◌, refl}
-use Prim.Native.Nat.{ℕ, ◌/◌, ◌%◌}
-use Rattle.std.proofs.Common.{◌*◌, length}
-use Rattle.limits.specs.Limits.{most_runs}
-use Rattle.rows.specs.Rows.{Row}
-use Rattle.bench.specs.Coverage.{row_of_occurrence, pair_bytes}
-use Rattle.bench.specs.Tables.{marked}
-use Rattle.lines.proofs.Written.{Text, within}
-use Rattle.lines.proofs.InOrder.{order_nested, passed_none, passed_room, passed_more, passed_all}
+use mathlib.Core.Bool.{Bool, true, false, cond}
+use mathlib.Core.List.{[], ◌∷◌}
+use mathlib.Core.Path.{◌≡◌, ◌∙◌, ap}
+use Prim.Native.Nat.{ℕ, ◌*◌, ◌/◌, ◌%◌, ◌≤◌}
+use lib.ListN.{length, length-append}
+use Rattle.lines.specs.Texts.{in_order}
+use Rattle.lines.proofs.InOrder.{order_nested, turn_none, turn_room, turn_more}
 use Rattle.covs.proofs.Occurring.{few_occurrences}
 use Rattle.pairs.proofs.PairNumbers.{few_pairs, parts_within}
 use Rattle.pairs.proofs.list_pairs.Invariants.{said}
 use Rattle.pairs.proofs.list_pairs.Goals as goal
 
--- what is put for occurrence o and run j is what the pair of `first` and `second` says, where these are o and j
-put-said :
-    (rows : List Row) (marks : List Bool) (first second : ℕ) {before after : List ℕ} {at end : ℕ} {mark : Bool} {p o j : ℕ} →
-    Text 2 before at (cond mark (pair_bytes o j) []) after end → mark ≡ marked marks p j → p ≡ row_of_occurrence rows o → o ≡ first → j ≡ second →
-    Text 2 before at (said rows marks first second) after end
-put-said rows marks first second put mark_is row_is o_is j-is = rw (← o_is, ← j-is, ← row_is, ← mark_is) put
+-- a pair takes two bytes, and no pair none
+two_bytes : (mark : Bool) (o j : ℕ) → length (cond mark (o ∷ j ∷ []) []) ≤ 2
+two_bytes true o j = omega arith
+two_bytes false o j = omega arith
 
-pub overflow_mul-pairs : goal.overflow_mul-pairs
-overflow_mul-pairs c =
+pub overflow_mul-n-end : goal.overflow_mul-n-end
+overflow_mul-n-end c =
     record { fits = omega (arith, few_pairs c.args.rows.now c.occurrence_count-occs.ensures c.requires.1) }
 
 pub loop-n-init : goal.loop-n-init
-loop-n-init c = passed_none _ 2 _ _ _
+loop-n-init c = rw c.new-pairs.ensures (turn_none _ 2 [])
 
-pub row_of-p-requires : goal.row_of-p-requires
-row_of-p-requires c = omega (arith, parts_within _ _ c.loop-n-test.true, c.occurrence_count-occs.ensures)
-
-pub is_marked-mark-requires : goal.is_marked-mark-requires
-is_marked-mark-requires c =
-    let parts = parts_within _ _ c.loop-n-test.true in
-    (omega (arith, c.row_of-p.ensures.1), omega arith)
-
-pub put_pair_if-end-requires : goal.put_pair_if-end-requires
-put_pair_if-end-requires c =
+pub put_pair_if-requires : goal.put_pair_if-requires
+put_pair_if-requires c =
     let parts = parts_within _ _ c.loop-n-test.true in
     let few = few_occurrences c.args.rows.now in
     let all = few_pairs c.args.rows.now c.occurrence_count-occs.ensures c.requires.1 in
-    (omega arith, omega arith, passed_room _ 2 c.loop-n.invariant (omega arith) c.loop-n-test.true)
-
-pub overflow_add-n : goal.overflow_add-n
-overflow_add-n c = omega (arith, few_pairs c.args.rows.now c.occurrence_count-occs.ensures c.requires.1)
+    (omega (arith, c.occurrence_count-occs.ensures), omega arith, turn_room c.loop-n.invariant (omega arith) c.loop-n-test.true)
 
 pub loop-n-preserved : goal.loop-n-preserved
 loop-n-preserved c =
-    let args = c.args in
+    let put = c.put_pair_if.ensures in
+    let mark = c.is_marked-mark.result in
     let n = c.loop-n.n in
-    let many = args.runs.0 in
-    passed_more _ 2 c.loop-n.invariant c.loop-n-test.true
-    (put-said args.rows.now args.marks.now (n / many) (n % many) (c.put_pair_if-end.ensures.result_value, c.put_pair_if-end.ensures.put)
-    c.is_marked-mark.ensures
-    c.row_of-p.ensures.0
-    refl
-    refl)
+    let many = c.args.runs.0 in
+    let long = two_bytes mark (n / many) (n % many) in
+    turn_more c.loop-n.invariant (rw (c.is_marked-mark.ensures, c.row_of.ensures.0) at put)
+    (omega (arith, ap length put, length-append {A = ℕ}))
 
 pub returns : goal.returns
 returns c =
     let rows = c.args.rows.now in
-    let all = few_pairs rows c.occurrence_count-occs.ensures c.requires.1 in
-    let put = rw (order_nested (said rows c.args.marks.now)) at (passed_all _ 2 c.loop-n.invariant c.loop-n-test.false) in
-    let more = within {most = 2 * most_runs * length rows} (omega arith) put in
-    rw (← c.occurrence_count-occs.ensures) (record { result_value = more.0; put = more.1 })
+    let marks = c.args.marks.now.cells in
+    let many = c.args.runs.0 in
+    let occs = c.occurrence_count-occs.result.0 in
+    let all : c.loop-n.n ≡ occs * many = omega arith in
+    c.loop-n.invariant.text
+    ∙ ap (λ (m : ℕ). in_order m (λ k. said rows marks (k / many) (k % many))) all
+    ∙ order_nested (said rows marks) many occs
+    ∙ ap (λ (m : ℕ). in_order m (λ o. in_order many (said rows marks o))) c.occurrence_count-occs.ensures

@@ -13,6 +13,7 @@ use Rattle.laws.proofs.Lent.{along, answered}
 use Rattle.laws.proofs.Passed.{lone_passes}
 use Rattle.logs.specs.LogRefusals.{log_of, log_says}
 use Rattle.logs.proofs.Given.{given_steps}
+use Rattle.std.proofs.lemmas.Result.{err_from_is_err_and}
 use Rattle.recorded.specs.Recorded.{room_for, taken_of}
 use Rattle.recorded.proofs.take_in.Goals as goal
 
@@ -31,33 +32,35 @@ module _ (log : List ℕ) (limits : List ℤ) (room : ℕ) where
   by-log : {s : Suite} {o : Outcome ℕ} → gives s ≡ suite_of (length limits) 1 1 → o ≡ log_of log → from-log o ≡ taken_of log limits room
   by-log e f = ap from-log f ∙ by-limits e
 
-pub returns-in-Refused : goal.returns-in-Refused
-returns-in-Refused c =
+pub returns-in_err-lone : goal.returns-in_err-lone
+returns-in_err-lone c =
     let a = c.args in
-    let refused = said suite_says (λ o. o) c.lone.ensures c.in-Refused.is in
+    let p = err_from_is_err_and c.from_residual.result c.from_residual.ensures.1 in
+    let refused = said suite_says (λ o. o) c.lone.ensures c.in_err-lone.was in
     let both = answered _ _ (by-limits a.log.now a.limits.now (length a.out.now) refused) refl in
-    record { result_value = both.0; out_after = both.1 }
+    record { result_value = rw (p.1, p.2) both.0; out_after = both.1 }
 
 pub put_run-requires : goal.put_run-requires
 put_run-requires c =
     let a = c.args in
-    let made = said suite_says (λ o. o) c.lone.ensures c.in_default.is in
-    let counted = said log_says (λ o. o) c.check_log.ensures c.in-Steps.is in
+    let made = said suite_says (λ o. o) c.lone.ensures c.in_ok-lone.was in
+    let counted = said log_says (λ o. o) c.check_log.ensures c.in_ok-steps.was in
     let right = (given_steps a.log.now _).0 (sym counted) in
     (((lone_passes (length a.limits.now)).0 (_, sym made)).1, right.0.1.1, right.1.1)
 
-pub returns-in-Refused-check_log : goal.returns-in-Refused-check_log
-returns-in-Refused-check_log c =
+pub returns-in_err-steps : goal.returns-in_err-steps
+returns-in_err-steps c =
     let a = c.args in
-    let made = said suite_says (λ o. o) c.lone.ensures c.in_default.is in
-    let refused = said log_says (λ o. o) c.check_log.ensures c.in-Refused-check_log.is in
+    let p = err_from_is_err_and c.from_residual-in_err-steps.result c.from_residual-in_err-steps.ensures.1 in
+    let made = said suite_says (λ o. o) c.lone.ensures c.in_ok-lone.was in
+    let refused = said log_says (λ o. o) c.check_log.ensures c.in_err-steps.was in
     let both = answered _ _ (by-log a.log.now a.limits.now (length a.out.now) made refused) refl in
-    record { result_value = both.0; out_after = both.1 }
+    record { result_value = rw (p.1, p.2) both.0; out_after = both.1 }
 
-pub returns-in-Steps : goal.returns-in-Steps
-returns-in-Steps c =
+pub returns : goal.returns
+returns c =
     let a = c.args in
-    let made = said suite_says (λ o. o) c.lone.ensures c.in_default.is in
-    let counted = said log_says (λ o. o) c.check_log.ensures c.in-Steps.is in
+    let made = said suite_says (λ o. o) c.lone.ensures c.in_ok-lone.was in
+    let counted = said log_says (λ o. o) c.check_log.ensures c.in_ok-steps.was in
     let both = along _ _ (by-log a.log.now a.limits.now (length a.out.now) made counted) (c.put_run.ensures.result_value, c.put_run.ensures.out_after) in
     record { result_value = both.0; out_after = both.1 }

@@ -1,8 +1,7 @@
 -- `row_checks::lowest_unsound` meets its contract: every row passed is sound, so the first that is not is the lowest.
 use mathlib.Core.Bool.{Bool}
 use mathlib.Core.List.{List}
-use Prim.Native.Nat.{ℕ, ◌-◌}
-use lib.ListN.{length}
+use Prim.Native.Nat.{ℕ}
 use Rattle.laws.proofs.Lowest.{Holds}
 use Rattle.rows.specs.Rows.{Row, row_at}
 use Rattle.rows.specs.Checks.{row_sound}
@@ -13,6 +12,3 @@ sound rows conditions r = row_sound conditions r (row_at rows r)
 
 abbrev pub invariant-loop-r : goal.invariant-loop-r
 invariant-loop-r l = Holds (sound l.rows l.conditions.0) 0 l.r
-
-abbrev pub decreases-loop-r : goal.decreases-loop-r
-decreases-loop-r l = length l.rows - l.r

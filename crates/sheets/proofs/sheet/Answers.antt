@@ -6,13 +6,12 @@ use lib.ListN.{length}
 use Rattle.limits.specs.declared.Suite.{Suite}
 use Rattle.figures.specs.Refusals.{Outcome, ◌then◌}
 use Rattle.figures.specs.Refusals.Outcome.{gives}
-use Rattle.limits.specs.Limits.{suite_says}
-use Rattle.figures.proofs.Known.{said}
 use Rattle.laws.proofs.Lent.{Answered, along, answered}
 use Rattle.layout.specs.Layout.{form1}
 use Rattle.layout.specs.Checks.{file_says}
 use Rattle.lines.specs.Texts.{page_by, text_of}
 use Rattle.sheets.specs.Answers.{sheet_of_file, page_text, sheet_of}
+use Rattle.std.proofs.lemmas.Result.{err_from_is_err_and}
 use Rattle.sheets.proofs.sheet.Goals as goal
 
 module _ (file out : List ℕ) where
@@ -32,15 +31,15 @@ module _ (file out : List ℕ) where
       along (sheet_of_file file) out (by_file e)
       (subst (λ (x : Outcome Suite). Says (page_by x (sheet_of_file file)) o after) (sym e) h)
 
-pub returns-in-Refused : goal.returns-in-Refused
-returns-in-Refused c =
+pub returns-in_err-check : goal.returns-in_err-check
+returns-in_err-check c =
     let a = c.args in
-    let both = answered (sheet_of_file a.file.now) a.out.now
-    (by_file a.file.now a.out.now (said suite_says (λ o. o) c.check.ensures c.in-Refused.is)) refl in
-    record { result_value = both.0; out_after = both.1 }
+    let both = answered (sheet_of_file a.file.now) a.out.now (by_file a.file.now a.out.now c.in_err-check.ensures) refl in
+    let p = err_from_is_err_and c.from_residual.result c.from_residual.ensures.1 in
+    rw (p.1, p.2) (record { result_value = both.0; out_after = both.1 })
 
 pub returns : goal.returns
 returns c =
     let a = c.args in
-    let both = by-page a.file.now a.out.now (said suite_says (λ o. o) c.check.ensures c.in_default.is) (c.page.ensures.result_value, c.page.ensures.out_after) in
+    let both = by-page a.file.now a.out.now c.in_ok-check.ensures (c.page.ensures.result_value, c.page.ensures.out_after) in
     record { result_value = both.0; out_after = both.1 }

@@ -1,36 +1,48 @@
--- `signals::cell` meets its contract: each arm is its kind's line, and past 12 there is no kind.
-use Prim.Native.Nat.{zero-le}
-use Rattle.rows.proofs.KindNumbers.{unknown, past}
+-- `signals::cell` meets its contract: where one operator stands in another, each in turn works on a lane apart.
 use Rattle.signals.proofs.cell.Goals as goal
 
-pub returns-in-4 : goal.returns-in-4
-returns-in-4 c = rw c.in-4.is
+pub returns-in-Until : goal.returns-in-Until
+returns-in-Until g c k l =
+    let laws = g.met.V.Values in
+    simp (
+      laws.or_law _ _ _ c.bitor-in-Until.ensures k,
+      laws.and_law _ _ _ c.bitand-in-Until-2.ensures k,
+      laws.and_law _ _ _ c.bitand-in-Until.ensures k,
+      c.not-in-Until.ensures k l,
+      c.in-Until.is,
+    )
 
-pub returns-in-5 : goal.returns-in-5
-returns-in-5 c = rw c.in-5.is
+pub returns-in-Release : goal.returns-in-Release
+returns-in-Release g c k l =
+    let laws = g.met.V.Values in
+    simp (
+      laws.and_law _ _ _ c.bitand-in-Release.ensures k,
+      laws.or_law _ _ _ c.bitor-in-Release-2.ensures k,
+      laws.or_law _ _ _ c.bitor-in-Release.ensures k,
+      c.in-Release.is,
+    )
 
-pub returns-in-6 : goal.returns-in-6
-returns-in-6 c = rw c.in-6.is
+pub returns-in-Finally : goal.returns-in-Finally
+returns-in-Finally g c k l =
+    let laws = g.met.V.Values in
+    simp (
+      laws.or_law _ _ _ c.bitor-in-Finally.ensures k,
+      laws.and_law _ _ _ c.bitand-in-Finally.ensures k,
+      c.not-in-Finally.ensures k l,
+      c.in-Finally.is,
+    )
 
-pub returns-in-7 : goal.returns-in-7
-returns-in-7 c = rw c.in-7.is
+pub returns-in-Globally : goal.returns-in-Globally
+returns-in-Globally g c k l =
+    let laws = g.met.V.Values in
+    simp (laws.and_law _ _ _ c.bitand-in-Globally.ensures k, laws.or_law _ _ _ c.bitor-in-Globally.ensures k, c.in-Globally.is)
 
-pub returns-in-8 : goal.returns-in-8
-returns-in-8 c = rw c.in-8.is
-
-pub returns-in-9 : goal.returns-in-9
-returns-in-9 c = rw c.in-9.is
-
-pub returns-in-10 : goal.returns-in-10
-returns-in-10 c = rw c.in-10.is
-
-pub returns-in-11 : goal.returns-in-11
-returns-in-11 c = rw c.in-11.is
-
-pub returns-in-12 : goal.returns-in-12
-returns-in-12 c = rw c.in-12.is
-
-pub returns-in-13-to-65535 : goal.returns-in-13-to-65535
-returns-in-13-to-65535 c =
-    let r = c.in-13-to-65535.in-13-to-65535-own.rest in
-    rw (unknown c.args.kind (past _ c.args.kind 0 13 zero-le r))
+pub returns-in-WeakUntil : goal.returns-in-WeakUntil
+returns-in-WeakUntil g c k l =
+    let laws = g.met.V.Values in
+    simp (
+      laws.or_law _ _ _ c.bitor-in-WeakUntil-2.ensures k,
+      laws.and_law _ _ _ c.bitand-in-WeakUntil.ensures k,
+      laws.or_law _ _ _ c.bitor-in-WeakUntil.ensures k,
+      c.in-WeakUntil.is,
+    )

@@ -1,13 +1,16 @@
--- `suite::words_of` meets its contract: the words passed stand in the array, and zeros after them.
+-- `suite::words_of` meets its contract: the words so far are pushed, one for each four bytes.
 use native.Mathlib.Nat.{add-zero}
+use native.Mathlib.Numerals.{add-one}
 use native.Mathlib.Omega.{arith}
-use mathlib.Core.Path.{refl, ◌∙◌, ap, ap₂}
-use Prim.Native.Nat.{◌*◌, ◌-◌, ◌/◌}
-use lib.ListN.{length, drop, set, length-take, length-drop}
+use mathlib.Core.List.{[], ◌∷◌, ◌++◌}
+use mathlib.Core.Path.{◌∙◌, ap, ap₂}
+use Prim.Native.Nat.{◌*◌, ◌/◌}
+use lib.ListN.{length}
 use Rattle.lengths.specs.Lengths.{most_steps}
 use Rattle.figures.specs.Numbers.{tabulate}
 use Rattle.laws.proofs.Parts.{rest_lent}
-use Rattle.laws.proofs.Padded.{padded_more, padded_front}
+use Rattle.laws.proofs.Tabulated.{length_tabulate}
+use Rattle.codec.proofs.Bytes.{taken}
 use Rattle.little.specs.Little.{little_at}
 use Rattle.layout.specs.Layout.{word_size}
 use Rattle.suite_laws.proofs.Little.{read_there}
@@ -17,26 +20,24 @@ use Rattle.suite.proofs.words_of.Goals as goal
 
 pub loop-i-init : goal.loop-i-init
 unfolding tabulate
-loop-i-init c = (search rules, refl)
+loop-i-init c = search rules
 
-pub word_of-requires : goal.word_of-requires
-word_of-requires c =
-    let bytes = c.args.bytes.now in
-    let at = word_size * c.loop-i.i in
-    omega (arith, length-take (length bytes - at) (drop at bytes), length-drop at bytes, c.least-count.ensures)
+pub push-requires : goal.push-requires
+push-requires c =
+    let q = c.loop-i in
+    omega (arith, ap length q.invariant, length_tabulate (word c.args.bytes.now) q.i, c.min-i-end.ensures)
 
 pub loop-i-preserved : goal.loop-i-preserved
+unfolding tabulate
 loop-i-preserved c =
     let q = c.loop-i in
     let bytes = c.args.bytes.now in
-    let there = c.word_of.ensures ∙ ap (λ l. little_at word_size l 0) (rest_lent (word_size * q.i) bytes) ∙ read_there word_size bytes (word_size * q.i) 0 ∙ ap (little_at word_size bytes) (add-zero (word_size * q.i)) in (
-      omega arith,
-      ap₂ (λ words v. set words q.i v) q.invariant.1 there
-          ∙ padded_more 0 most_steps (word bytes) q.i (omega (arith, c.least-count.ensures)),
-    )
+    let at = word_size * q.i in
+    let there = c.word_of.ensures ∙ ap (λ l. little_at word_size l 0) (rest_lent at bytes) ∙ read_there word_size bytes at 0 ∙ ap (little_at word_size bytes) (add-zero at) in
+    rw add-one (c.push.ensures.items ∙ ap₂ (λ words v. words ++ (v ∷ [])) q.invariant there)
 
 pub returns : goal.returns
 returns c =
     let q = c.loop-i in
     let bytes = c.args.bytes.now in
-    q.invariant.1 ∙ padded_front 0 most_steps (word bytes) (length bytes / word_size) q.i (omega (arith, c.least-count.ensures))
+    q.invariant ∙ taken (word bytes) (length bytes / word_size) most_steps q.i (omega (arith, c.min-i-end.ensures))

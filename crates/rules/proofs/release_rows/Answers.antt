@@ -1,8 +1,0 @@
--- `rules::release_rows` meets its contract: the two lines of release in document 01's table.
-use Rattle.rules.proofs.release_rows.Goals as goal
-
-pub returns-then-left : goal.returns-then-left
-returns-then-left c = rw c.if-left.true
-
-pub returns-else-left : goal.returns-else-left
-returns-else-left c = rw c.if-left.false
