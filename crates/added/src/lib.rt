@@ -1,13 +1,30 @@
-// The rows that each kind adds.
+// The rows that each kind adds, and how many.
 #![tactic(auto)]
 
 ghost use Rattle.std.specs.Prelude.{◌≡◌, ◌<◌, ◌≤◌, ◌+◌, ◌++◌};
 ghost use Rattle.arrayvec.specs.ArrayVec.{array_vec_len};
 ghost use Rattle.lengths.specs.Lengths.{most_table_rows};
-ghost use Rattle.rules.specs.TrapRows.{added, side_of};
+ghost use Rattle.rules.specs.TrapRows.{added, added_count, side_of};
 
 use rows::Kind;
 use rules::{AddedRows, add, and_row, finally_row, globally_row, not_row, or_row, strong_next_row};
+
+// How many rows a kind adds, by the side of the child on the way.
+pub fn added_count(kind: Kind, left: bool) -> u16
+    ensures { result ≡ added_count kind (side_of left) }
+{
+    match kind {
+        Kind::False | Kind::True | Kind::Condition | Kind::Not | Kind::Unknown => 0,
+        Kind::And => 1,
+        Kind::Or => 2,
+        Kind::StrongNext | Kind::WeakNext => 1,
+        Kind::Until => if left { 4 } else { 5 },
+        Kind::Release => if left { 5 } else { 3 },
+        Kind::Finally => 4,
+        Kind::Globally => 2,
+        Kind::WeakUntil => if left { 4 } else { 6 },
+    }
+}
 
 // Adds the rows that a kind adds: document 01's table, line by line. z is the first free row.
 pub fn add_rows(

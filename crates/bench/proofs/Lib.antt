@@ -8,3 +8,4 @@ pub mod Ready
 pub mod Decoded
 pub mod Loops
 pub mod Any
+pub mod Limits

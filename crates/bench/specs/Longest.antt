@@ -1,10 +1,13 @@
--- The most bytes of each line of a sheet, and how many notes a suite has. Nobody needs to believe this page: that they suffice is proved.
+-- The most bytes of each line of a sheet, and how many marks a requirement and notes a suite has. Nobody needs to believe this page: that they suffice is proved.
 -- Assumes nothing.
 use Rattle.std.specs.Prelude.{ℕ, ◌+◌, ◌*◌}
 use Rattle.limits.specs.Limits.{most_conditions, most_requirements, most_runs}
 use Rattle.lengths.specs.Lengths.{most_requirement_rows}
 
--- a note for each requirement and each of its rows
+-- a mark for each row of a requirement and each run; a note for each requirement and each of its rows
+abbrev pub mark_count : ℕ
+mark_count = most_requirement_rows * most_runs
+
 abbrev pub note_count : ℕ
 note_count = most_requirements * most_requirement_rows
 

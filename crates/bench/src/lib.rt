@@ -7,6 +7,7 @@ ghost use Rattle.limits.specs.Limits.{most_requirements, most_runs};
 ghost use Rattle.figures.specs.Refusals.Outcome.{gives};
 ghost use Rattle.layout.specs.Layout.{form1, conditions_in, requirements_in, runs_in};
 ghost use Rattle.layout.specs.Checks.{file_says};
+ghost use Rattle.bench.specs.Longest.{mark_count, note_count};
 ghost use Rattle.bench.specs.Tables.{marked, noted, CellSet};
 ghost use Rattle.bench.specs.Files.{RequirementsReady, RunsReady, requirements_ready_prop};
 
@@ -65,7 +66,7 @@ impl<'a> Runs<'a> {
 }
 
 // The engine's table of one requirement: a mark for each of its rows and each run.
-#[derive(Drop)]
+#[derive(Clone, Copy)]
 pub struct Marks {
     pub cells: [bool; Marks::MANY],
 }
@@ -75,7 +76,8 @@ impl Marks {
 
     // No mark set.
     pub fn new() -> Self
-        ensures { (p j : ℕ) → marked result.cells p j ≡ false }
+        ensures unmarked { (p j : ℕ) → marked result.cells p j ≡ false }
+        ensures many { Marks.MANY ≡ mark_count }
     {
         Marks {
             cells: [false; Marks::MANY],
@@ -101,7 +103,7 @@ impl Marks {
 }
 
 // The engine's table of a suite: a note for each requirement and each of its rows.
-#[derive(Drop)]
+#[derive(Clone, Copy)]
 pub struct Notes {
     pub cells: [bool; Notes::MANY],
 }
@@ -111,7 +113,8 @@ impl Notes {
 
     // No note made.
     pub fn new() -> Self
-        ensures { (q p : ℕ) → noted result.cells q p ≡ false }
+        ensures blank { (q p : ℕ) → noted result.cells q p ≡ false }
+        ensures many { Notes.MANY ≡ note_count }
     {
         Notes {
             cells: [false; Notes::MANY],

@@ -1,35 +1,19 @@
--- The steps of a run that is judged block by block: the words that are read of its bytes, and one block more.
+-- The steps of a run that is judged block by block: one block more.
 -- Assumes nothing.
-use mathlib.Core.Path.{◌≡◌, sym, ◌∙◌, ap}
+use mathlib.Core.Path.{◌≡◌, ◌∙◌, ap}
 use mathlib.Core.Bool.{Bool}
 use mathlib.Core.List.{List}
-use Prim.Native.Nat.{ℕ, ◌+◌, ◌-◌, ◌*◌, ◌/◌, ◌<◌, ◌≤◌}
+use Prim.Native.Nat.{ℕ, ◌+◌, ◌<◌, ◌≤◌}
 use native.Mathlib.Nat.{add-zero}
 use native.Mathlib.Omega.{arith}
 use lib.Dec.{eqb}
-use lib.ListN.{length, get_or, take, drop}
+use lib.ListN.{length, get_or}
 use Rattle.lengths.specs.Lengths.{most_requirement_rows}
-use Rattle.laws.proofs.Parts.{rest_lent}
-use Rattle.laws.proofs.Tabulated.{get_d_tabulate}
 use Rattle.rows.specs.Rows.{Row}
 use Rattle.signals.specs.Truth.{truth_of}
 use Rattle.lanes.specs.Lanes.{lane}
-use Rattle.little.specs.Little.{little_at}
-use Rattle.layout.specs.Layout.{word_size}
-use Rattle.layout.specs.Checks.{words_of}
-use Rattle.suite_laws.proofs.Little.{read_there}
 use Rattle.row_lines.specs.RowLines.{line_at}
 use Rattle.blocks.specs.Blocks.{lane_reads, ColumnTrue, BlockTrue}
-
--- the word that is read of a run's bytes from step i on
-pub step_word :
-    (bytes : List ℕ) (i : ℕ) → i < length bytes / word_size →
-    little_at word_size (take (length bytes - word_size * i) (drop (word_size * i) bytes)) 0 ≡ get_or (words_of bytes) i 0
-step_word bytes i l =
-    ap (λ t. little_at word_size t 0) (rest_lent (word_size * i) bytes)
-    ∙ read_there word_size bytes (word_size * i) 0
-    ∙ ap (little_at word_size bytes) (add-zero (word_size * i))
-    ∙ sym (get_d_tabulate (λ i. little_at word_size bytes (word_size * i)) (length bytes / word_size) i 0 l)
 
 -- the first column of a block is right for the block's first step, if the column after the block is right for the step after it
 pub column_more :

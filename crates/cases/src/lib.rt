@@ -90,6 +90,7 @@ fn four_at(bytes: &[u8], at: usize) -> [u8; 4]
 // The four-byte number at a place.
 fn number_at(bytes: &[u8], at: usize) -> usize
     requires { at + 4 ≤ length bytes.now }
+    ensures { result < 4294967296 }
 {
     u32::from_le_bytes(four_at(bytes, at)) as usize
 }

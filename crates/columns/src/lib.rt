@@ -3,10 +3,10 @@
 
 ghost use Rattle.std.specs.Prelude.{◌≡◌, ℕ, ◌<◌, ◌≤◌, length, get_or};
 ghost use Rattle.lengths.specs.Lengths.{most_table_rows};
-ghost use Rattle.rows.specs.declared.Kind.TheVariants.{False};
+ghost use Rattle.rows.specs.declared.Kind.TheVariants.{False, Condition};
 ghost use Rattle.rows.specs.Rows.{kind, row_at};
 ghost use Rattle.signals.specs.Truth.{verdict_of};
-ghost use Rattle.signals.specs.Column.{Cells, Fit, own_by, reading_of};
+ghost use Rattle.signals.specs.Column.{Cells, Fit, own_by, read_of, reading_of};
 
 use figures::{ConditionNumber, RowNumber, StepNumber};
 use lengths::TABLE_ROWS;
@@ -23,6 +23,14 @@ fn kinds_of(rows: &[[u16; 3]]) -> [Kind; TABLE_ROWS]
         kinds[r] = Kind::from(row[0]);
     }
     kinds
+}
+
+// What a condition row reads at a step. Of another row nothing is read: its value does not hang on this.
+#[inline]
+fn own_of(kind: Kind, reads: Reads, condition: ConditionNumber, r: RowNumber) -> bool
+    ensures { kind ≡ Condition → result ≡ read_of reads condition.0 r.0 }
+{
+    kind == Kind::Condition && readings::read(reads, condition, r)
 }
 
 // The column of the step in hand, from what is read at it and the column of the step after it.
@@ -43,7 +51,7 @@ fn column(
     for (r, row) in rows.iter().enumerate() {
         let first = usize::from(row[1]);
         let second = usize::from(row[2]);
-        let own = readings::read(reads, ConditionNumber(first), RowNumber(r));
+        let own = own_of(kinds[r], reads, ConditionNumber(first), RowNumber(r));
         here[r] = signals::cell(
             kinds[r],
             own,

@@ -34,6 +34,11 @@ pub type Requirement = Rows<REQUIREMENT_ROWS>;
 pub struct Run(pub StepCount);
 
 impl<const MOST: usize> Rows<MOST> {
+    // The most rows, and the bytes of a row.
+    pub const ROWS: usize = MOST;
+
+    pub const ROW_BYTES: usize = ROW_BYTES;
+
     #[tactic(auto, unfolding(crate::specs::Lengths::rows_of))]
     pub fn new(bytes: ByteCount) -> Result<Self, Refusal>
         ensures { rows_say result ≡ rows_of MOST bytes.0 }

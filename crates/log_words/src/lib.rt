@@ -1,7 +1,7 @@
 // One step's word of a recorded run: which conditions hold, by their limits and the travel at the step, all in encoder counts.
 #![tactic(auto)]
 
-ghost use Rattle.std.specs.Prelude.{◌≡◌, ◌≤◌, length};
+ghost use Rattle.std.specs.Prelude.{◌≡◌, ◌≤◌, cond, length};
 ghost use Rattle.limits.specs.Limits.{most_conditions};
 ghost use Rattle.log_words.specs.StepWord.{holds_at, word_by};
 
@@ -18,6 +18,13 @@ pub fn holds(limit: Limit, travel: Travel) -> bool
     limit.0 <= travel.0
 }
 
+// The lowest bit of a word, for a condition that holds or not.
+fn low_bit(holds: bool) -> u32
+    ensures { result ≡ cond holds 1 0 }
+{
+    u32::from(holds)
+}
+
 // The word of a step: bit c is condition c, so the last limit comes first.
 pub fn word_of(limits: &[i32], travel: Travel) -> u32
     requires { length limits.now ≤ most_conditions }
@@ -25,7 +32,7 @@ pub fn word_of(limits: &[i32], travel: Travel) -> u32
 {
     let mut word = 0;
     for c in (0..limits.len()).rev() {
-        word = u32::from(holds(Limit(limits[c]), travel)) + 2 * word;
+        word = low_bit(holds(Limit(limits[c]), travel)) + 2 * word;
     }
     word
 }

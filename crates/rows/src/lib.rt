@@ -56,7 +56,7 @@ impl From<u16> for Kind {
             10 => Kind::Finally,
             11 => Kind::Globally,
             12 => Kind::WeakUntil,
-            _ => Kind::Unknown,
+            13..=u16::MAX => Kind::Unknown,
         }
     }
 }

@@ -1,13 +1,13 @@
 // The operations that write the bench sheet, or the program's whole output, into lent bytes.
 #![tactic(auto)]
 
-ghost use Rattle.std.specs.Prelude.{◌≡◌, ◌++◌, ◌+◌, ◌≤◌, length};
+ghost use Rattle.std.specs.Prelude.{◌≡◌, [], ◌++◌, ◌+◌, ◌≤◌, length};
 ghost use Rattle.arrayvec.specs.ArrayVec.{array_vec_len};
 ghost use Rattle.bench.specs.Longest.{sheet_most};
 ghost use Rattle.figures.specs.Outputs.{output_says, lent_after};
 ghost use Rattle.sheets.specs.Answers.{sheet_of_file, page_text, page_of, sheet_of};
 
-use bench::{Requirements, Runs, Sheet};
+use bench::{Longest, Requirements, Runs, Sheet};
 use figures::{ByteCount, Refusal};
 use lines::Page;
 
@@ -24,12 +24,20 @@ pub fn put_page<const MOST: usize>(file: &[u8], page: &mut Page<MOST>)
     }
 }
 
+// An empty page, with just the room that the longest sheet takes.
+pub fn blank() -> Sheet
+    ensures empty { result.text.items ≡ [] }
+    ensures room { sheet_most ≡ Longest.SHEET }
+{
+    Sheet::new()
+}
+
 // The program's whole output for a file, or 14 where it does not fit.
 pub fn page(file: &[u8], out: &mut [u8]) -> Result<ByteCount, Refusal>
     ensures result_value { output_says result ≡ page_of file.now (length out.old) }
     ensures out_after { out.new ≡ lent_after (page_of file.now (length out.old)) (page_text file.now) out.old }
 {
-    let mut page = Sheet::new();
+    let mut page = blank();
     put_page(file, &mut page);
     page.copy_to(out)
 }

@@ -5,12 +5,15 @@ ghost use Rattle.std.specs.Prelude.{◌≡◌, ◌+◌, ◌*◌, ◌≤◌, ◌<
 ghost use Rattle.limits.specs.Limits.{suite_says};
 ghost use Rattle.lengths.specs.Lengths.{most_table_rows, most_steps};
 ghost use Rattle.figures.specs.Refusals.{check_says};
+ghost use Rattle.signals.specs.Truth.{lowest_stray};
+ghost use Rattle.run_checks.specs.RunChecks.{found_step};
 ghost use Rattle.layout.specs.Layout.{form1, requirements_in, count_in, body_in};
 ghost use Rattle.layout.specs.Checks.{words_of, requirement_from, run_from, requirement_of_file, run_of_file, requirements_of_file, runs_of_file, file_says, FewRows, FewSteps};
 
 use arrayvec::ArrayVec;
 use figures::{
-    ByteOffset, ConditionCount, Refusal, RequirementNumber, RowPlace, RunNumber, StepPlace,
+    ByteOffset, ConditionCount, Refusal, RequirementNumber, RowPlace, RunNumber, StepNumber,
+    StepPlace,
 };
 use layout::{Form, RequirementRange};
 use lengths::{ROW_BYTES, Run};
@@ -83,17 +86,31 @@ fn check_rows_from(
     Ok(())
 }
 
+// The first step of a run's bytes whose word has a stray bit. The words are read one by one and not kept: an array of the longest run
+// would cost a short run more than its own steps.
+fn lowest_stray_of(body: &[u8], conditions: ConditionCount) -> Option<StepNumber>
+    ensures { found_step result ≡ lowest_stray conditions.0 (words_of body.now) }
+{
+    for i in 0..body.len() / Form::WORD_BYTES {
+        let word = little::word_of(&body[Form::WORD_BYTES * i..]);
+        if !signals::word_sound(word, conditions) {
+            return Some(StepNumber(i));
+        }
+    }
+    None
+}
+
 // Refusal 11 of a run whose body begins at a place of a file.
 #[tactic(auto, using(suite_laws::proofs::Searched::found_inside))]
 fn check_words_from(
-    run: &[u32],
+    body: &[u8],
     conditions: ConditionCount,
     from: ByteOffset,
 ) -> Result<(), Refusal>
-    requires { (from.0 ≤ 65535) × (length run.now ≤ most_steps) }
-    ensures { check_says result ≡ run_from conditions.0 from.0 run.now }
+    requires { (from.0 ≤ 65535) × (length (words_of body.now) ≤ most_steps) }
+    ensures { check_says result ≡ run_from conditions.0 from.0 (words_of body.now) }
 {
-    if let Some(i) = run_checks::lowest_stray(run, conditions) {
+    if let Some(i) = lowest_stray_of(body, conditions) {
         return Err(Refusal::StrayBit(StepPlace::File(ByteOffset(from.0 + Form::WORD_BYTES * i.0))));
     }
     Ok(())
@@ -112,15 +129,14 @@ fn check_requirement(file: &[u8], q: RequirementNumber) -> Result<(), Refusal>
 }
 
 // Refusal 11 of run j.
-#[tactic(auto, using(suite_laws::proofs::Sizes::words_whole))]
+#[tactic(auto, using(suite_laws::proofs::Sizes::words_few))]
 fn check_run(file: &[u8], j: RunNumber) -> Result<(), Refusal>
     requires { (j.0 < 256) × (count_in form1 file.now (requirements_in file.now + j.0) ≤ most_steps) }
     ensures { check_says result ≡ run_of_file form1 file.now j.0 }
 {
     let body = run_bytes(file, j);
-    let run = words_of(body);
     let from = ByteOffset(contents::start_of(file, little::byte_at(file, 2) + j.0));
-    check_words_from(&run, ConditionCount(little::byte_at(file, 1)), from)
+    check_words_from(body, ConditionCount(little::byte_at(file, 1)), from)
 }
 
 // Refusals 8 and 9 of each requirement in turn.

@@ -43,6 +43,10 @@ module _ (file : List ℕ) where
       take_all most_steps (run_words_in form1 file j)
       (omega (arith, length_words_of (body_in form1 file (requirements_in file + j)), steps_fit j few))
 
+  pub words_few :
+      (j : ℕ) → count_in form1 file (requirements_in file + j) ≤ most_steps → length (run_words_in form1 file j) ≤ most_steps
+  words_few j few = omega (arith, length_words_of (body_in form1 file (requirements_in file + j)), steps_fit j few)
+
   -- what 5 leaves to the checks after it
   module _ {range : Range} (right : ContentsRight form1 range file) where
     pub few_rows : FewRows form1 file

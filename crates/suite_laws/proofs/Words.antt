@@ -2,18 +2,20 @@
 -- Assumes nothing.
 use mathlib.Core.Path.{◌≡◌, refl, sym, ◌∙◌, ap, ap₂}
 use mathlib.Core.List.{List, [], ◌∷◌, ◌++◌}
-use Prim.Native.Nat.{ℕ, zero, suc, ◌+◌, ◌*◌, ◌^◌, ◌/◌, ◌%◌, ◌≤◌, ◌<◌}
+use Prim.Native.Nat.{ℕ, zero, suc, ◌+◌, ◌-◌, ◌*◌, ◌^◌, ◌/◌, ◌%◌, ◌≤◌, ◌<◌}
+use native.Mathlib.Nat.{add-zero}
 use native.Mathlib.Omega.{arith}
-use lib.ListN.{length, get_or, take}
+use lib.ListN.{length, get_or, take, drop}
 use lib.Seq.{take-add, take_all}
 use Rattle.figures.specs.Numbers.{tabulate}
+use Rattle.laws.proofs.Parts.{rest_lent}
 use Rattle.laws.proofs.Tabulated.{length_tabulate, get_d_tabulate}
 use Rattle.little.specs.Little.{little, little_at}
 use Rattle.layout.specs.Layout.{word_size}
 use Rattle.layout.specs.Written.{words_in}
 use Rattle.layout.specs.Checks.{words_of}
 use Rattle.suite_laws.proofs.Parts.{Bytes}
-use Rattle.suite_laws.proofs.Little.{read_past, number_back, number_small, bytes_back}
+use Rattle.suite_laws.proofs.Little.{read_past, read_there, number_back, number_small, bytes_back}
 use Rattle.suite_laws.proofs.Listed.{tabulate_is}
 
 pub length_words_in : (words : List ℕ) → length (words_in words) ≡ word_size * length words
@@ -22,6 +24,16 @@ length_words_in (w ∷ words) = let h = length_words_in words in omega arith
 
 pub length_words_of : (bytes : List ℕ) → length (words_of bytes) ≡ length bytes / word_size
 length_words_of bytes = length_tabulate _ (length bytes / word_size)
+
+-- the word that is read of a run's bytes from step i on
+pub step_word :
+    (bytes : List ℕ) (i : ℕ) → i < length bytes / word_size →
+    little_at word_size (take (length bytes - word_size * i) (drop (word_size * i) bytes)) 0 ≡ get_or (words_of bytes) i 0
+step_word bytes i l =
+    ap (λ t. little_at word_size t 0) (rest_lent (word_size * i) bytes)
+    ∙ read_there word_size bytes (word_size * i) 0
+    ∙ ap (little_at word_size bytes) (add-zero (word_size * i))
+    ∙ sym (get_d_tabulate (λ i. little_at word_size bytes (word_size * i)) (length bytes / word_size) i 0 l)
 
 words_in_append : (s t : List ℕ) → words_in (s ++ t) ≡ words_in s ++ words_in t
 words_in_append [] t = refl

@@ -1,7 +1,7 @@
 // The travel of a log as text: a line for each step, or the line of the log's refusal, put into lent bytes.
 #![tactic(auto)]
 
-ghost use Rattle.std.specs.Prelude.{◌≡◌, ◌++◌, ◌+◌, ◌*◌, ◌≤◌, nat_abs, length};
+ghost use Rattle.std.specs.Prelude.{◌≡◌, [], ◌++◌, ◌+◌, ◌*◌, ◌≤◌, nat_abs, length};
 ghost use Rattle.arrayvec.specs.ArrayVec.{array_vec_len};
 ghost use Rattle.lengths.specs.Lengths.{most_steps};
 ghost use Rattle.figures.specs.Outputs.{output_says, lent_after};
@@ -72,12 +72,20 @@ pub fn put_page<const MOST: usize>(log: &[u8], page: &mut Page<MOST>)
     }
 }
 
+// An empty page, with just the room that the longest travel takes.
+pub fn blank() -> Travels
+    ensures empty { result.text.items ≡ [] }
+    ensures room { travel_page_most ≡ Longest.PAGE }
+{
+    Travels::new()
+}
+
 // The program's whole output for a log, or 14 where it does not fit.
 pub fn page(log: &[u8], out: &mut [u8]) -> Result<ByteCount, Refusal>
     ensures result_value { output_says result ≡ travel_page_of log.now (length out.old) }
     ensures out_after { out.new ≡ lent_after (travel_page_of log.now (length out.old)) (travel_page log.now) out.old }
 {
-    let mut page = Travels::new();
+    let mut page = blank();
     put_page(log, &mut page);
     page.copy_to(out)
 }

@@ -6,14 +6,14 @@ use mathlib.Core.List.{List, [], ◌∷◌, ◌++◌, append-nil}
 use Prim.Native.Nat.{ℕ, ◌+◌, ◌-◌, ◌*◌, ◌≤◌, ◌<◌}
 use native.Mathlib.Omega.{arith}
 use native.Mathlib.Numerals.{add-one}
-use borrow.Author.Tests.{leb-true, eq-eqb, ne_eqb}
+use borrow.Author.Tests.{eqb-true, leb-true, eq-eqb, ne_eqb}
 use lib.Dec.{eqb, leb}
 use lib.ListN.{length, drop, length-append, drop_of_length-le}
 use lib.Seq.{drop-cons}
 use Rattle.rows.specs.declared.Kind.{Kind}
 use Rattle.rows.specs.Rows.{Row, row_at, named}
 use Rattle.signal_laws.proofs.ByKind.{by_kind}
-use Rattle.rules.specs.TrapRows.{Side, Way, added, trap_of, has, up_to, climb, way}
+use Rattle.rules.specs.TrapRows.{Side, Way, added, added_count, trap_of, has, up_to, climb, way}
 use Rattle.rules.specs.TrapRows.Side.{Left, Right}
 use Rattle.ways.specs.Climbing.{passed}
 
@@ -25,6 +25,13 @@ last_row old [] s n = rw (append-nil old, eq-eqb (length old) (length old) refl)
 last_row old (r ∷ rs) s n =
     let many = length-append old (r ∷ rs) in
     rw (ne_eqb (length (old ++ (r ∷ rs))) (length old) (λ e. omega (arith, many))) (omega (arith, many))
+
+-- how many rows are added does not hang on their numbers
+pub count_added : (k : Kind) (side : Side) (s c o t z : ℕ) → length (added k side s c o t z) ≡ added_count k side
+count_added k Left s c o t z =
+    eqb-true _ _ (by_kind (λ k. eqb (length (added k Left s c o t z)) (added_count k Left)) refl refl k)
+count_added k Right s c o t z =
+    eqb-true _ _ (by_kind (λ k. eqb (length (added k Right s c o t z)) (added_count k Right)) refl refl k)
 
 -- a row adds at most 6
 few_added : (k : Kind) (side : Side) (s c o t z : ℕ) → length (added k side s c o t z) ≤ 6

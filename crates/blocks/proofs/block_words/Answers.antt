@@ -5,7 +5,7 @@ use Prim.Native.Nat.{◌+◌}
 use lib.ListN.{get_or}
 use Rattle.layout.specs.Checks.{words_of}
 use Rattle.blocks.proofs.Stored.{stored_more}
-use Rattle.blocks.proofs.Stepped.{step_word}
+use Rattle.suite_laws.proofs.Words.{step_word}
 use Rattle.std.proofs.Common.{rules}
 use Rattle.blocks.proofs.block_words.Goals as goal
 
