@@ -6,7 +6,7 @@
  *   - a pointer to words or limits is aligned to 4 bytes;
  *   - the lent bytes or words `out` share no byte with anything else that is passed, and nobody else reads or writes them during the call;
  *     nobody writes what is only read. Calls in several threads at once are fine, each with its own `out`. `out` may hold anything;
- *   - the stack has room: 512 KiB for occov_sheet, 64 KiB for the others (measured: 473,000 bytes and at most 56,424);
+ *   - the stack has room: 512 KiB for occov_sheet, 64 KiB for the others (measured: 450,760 bytes and at most 34,184);
  *   - the program is for x86-64 Linux.
  * A caller guarantees nothing about the figures: every number is taken, and a wrong one is refused by its number in document 01 (17, of a
  * log, in document 02).

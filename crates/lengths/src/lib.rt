@@ -13,7 +13,7 @@ pub const ROW_BYTES: usize = 3;
 fn rows_within(most: usize, bytes: usize) -> bool
     ensures { result ≡ rows_within most bytes }
 {
-    bytes % ROW_BYTES == 0 && limits::within(1, most, bytes / ROW_BYTES)
+    bytes % Table::ROW_BYTES == 0 && limits::within(1, most, bytes / Table::ROW_BYTES)
 }
 
 // A table's number of rows, which is at most MOST.
@@ -33,12 +33,23 @@ pub type Requirement = Rows<REQUIREMENT_ROWS>;
 #[derive(Clone, Copy)]
 pub struct Run(pub StepCount);
 
-impl<const MOST: usize> Rows<MOST> {
-    // The most rows, and the bytes of a row.
-    pub const ROWS: usize = MOST;
+impl Rows<TABLE_ROWS> {
+    // The most rows of a formula table, and the bytes of a row.
+    pub const ROWS: usize = TABLE_ROWS;
 
     pub const ROW_BYTES: usize = ROW_BYTES;
+}
 
+impl Rows<REQUIREMENT_ROWS> {
+    // The most rows of a requirement.
+    pub const ROWS: usize = REQUIREMENT_ROWS;
+}
+
+const _: () = prove!(Table::ROWS == TABLE_ROWS);
+
+const _: () = prove!(Requirement::ROWS == REQUIREMENT_ROWS);
+
+impl<const MOST: usize> Rows<MOST> {
     #[tactic(auto, unfolding(crate::specs::Lengths::rows_of))]
     pub fn new(bytes: ByteCount) -> Result<Self, Refusal>
         ensures { rows_say result ≡ rows_of MOST bytes.0 }

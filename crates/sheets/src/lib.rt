@@ -25,7 +25,7 @@ pub fn put_page<const MOST: usize>(file: &[u8], page: &mut Page<MOST>)
 }
 
 // An empty page, with just the room that the longest sheet takes.
-pub fn blank() -> Sheet
+pub fn blank() -> Page<{ Longest::SHEET }>
     ensures empty { result.text.items ≡ [] }
     ensures room { sheet_most ≡ Longest.SHEET }
 {

@@ -73,7 +73,7 @@ pub fn put_page<const MOST: usize>(log: &[u8], page: &mut Page<MOST>)
 }
 
 // An empty page, with just the room that the longest travel takes.
-pub fn blank() -> Travels
+pub fn blank() -> Page<{ Longest::PAGE }>
     ensures empty { result.text.items ≡ [] }
     ensures room { travel_page_most ≡ Longest.PAGE }
 {
